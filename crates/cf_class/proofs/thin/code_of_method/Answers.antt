@@ -1,0 +1,12 @@
+use Rattle.std.proofs.Common.{rules}
+use Rattle.cf_class.specs.Views.{attribute_of}
+use Rattle.cf_class.proofs.thin.code_of_method.Goals as goal
+
+pub returns : goal.returns
+returns c = record {
+  access = search rules;
+  attribute = attribute_of c.in-Some.attribute.now;
+  only = search rules;
+  walks = search rules;
+  plain = search rules;
+}

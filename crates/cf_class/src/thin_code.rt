@@ -1,0 +1,313 @@
+// Whether the code of a method is thin: its shapes are found in one pass, since each jump goes forward.
+ghost use Rattle.std.specs.Prelude.{◌≡◌, ◌+◌, ◌-◌, ◌∷◌, ◌<◌, ◌≤◌, ◌↔◌, IsFalse, [], length, true, false, Some, None, Option, List as list_of, replicate, IsTrue, IfOk, IfSome, MatchOption};
+ghost use Rattle.cf_class.specs.declared.shape.Shape.{Shape};
+ghost use Rattle.cf_class.specs.ThinCode.{HasInstrs, Shapes, MeetsRules, IsThin, ThinCode, entry_locals, falls_through, target_of};
+ghost use Rattle.cf_class.specs.Passes.{IsSound, Covers, fall_of, FlowsTo, CannotFlow, JoinsFound, Differs, LeadsToAny, RefusesAny, LeadsTo, Refuses, HaveLocals, shape_at};
+
+use crate::instr::{ThinInstr, thin_instr_at};
+use crate::shape::{Limits, Shape};
+use crate::starts::{has_instrs, target_of_instr};
+use ThinInstr::{Athrow, Goto, Ireturn, Return};
+use jv_base::{List, Mem};
+use std::alloc::Global;
+
+/// Whether bytes are thin code of a method with so many parameters, that gives an int or nothing.
+pub fn is_thin_code(
+    alloc: Global,
+    code: &[u8],
+    params: u16,
+    gives_int: bool,
+    max_stack: u16,
+    max_locals: u16,
+) -> Mem<bool>
+    requires { length code.now ≤ 65535 }
+    ensures { IfOk result (λ b. IsTrue b ↔ ThinCode code.now params gives_int max_stack max_locals) }
+{
+    let limits = Limits {
+        params,
+        gives_int,
+        max_stack,
+        max_locals,
+    };
+    if params > max_locals || !has_instrs(alloc, code)? {
+        return Ok(false);
+    }
+    has_shapes(alloc, code, limits)
+}
+
+/// Whether code that is instructions has shapes that meet the rules.
+fn has_shapes(alloc: Global, code: &[u8], limits: Limits) -> Mem<bool>
+    requires long { length code.now ≤ 65535 }
+    requires instrs { HasInstrs code.now }
+    requires params { limits.params ≤ limits.max_locals }
+    ensures { IfOk result (λ b. IsTrue b ↔ IsThin code.now limits) }
+{
+    let mut shapes = entry_shapes(alloc, code.len(), limits)?;
+    for pc in 0..code.len() as u16 {
+        if !visit(alloc, code, limits, &mut shapes, pc)? {
+            return Ok(false);
+        }
+    }
+    Ok(true)
+}
+
+/// The shapes that are known at the start: one, at the entry.
+fn entry_shapes(alloc: Global, count: usize, limits: Limits) -> Mem<Vec<Option<Shape>>>
+    requires some { 0 < count }
+    requires params { limits.params ≤ limits.max_locals }
+    ensures { IfOk result (λ shapes. (shape : Shape) × (shapes.items ≡ Some shape ∷ replicate (count - 1) None) × (shape.locals ≡ entry_locals limits.params limits.max_locals) × (shape.stack ≡ [])) }
+{
+    let locals = entry_locals_of(alloc, limits)?;
+    let mut shapes = Vec::with_capacity(alloc, count)?;
+    shapes.push(Some(Shape {
+        locals,
+        stack: List::new(alloc),
+    }))?;
+    for _ in 1..count {
+        shapes.push(None)?;
+    }
+    Ok(shapes)
+}
+
+/// The locals at the entry: an int in those of the parameters.
+fn entry_locals_of(alloc: Global, limits: Limits) -> Mem<List<bool>>
+    requires { limits.params ≤ limits.max_locals }
+    ensures { IfOk result (λ locals. locals ≡ entry_locals limits.params limits.max_locals) }
+{
+    let mut locals = Vec::with_capacity(alloc, usize::from(limits.max_locals))?;
+    locals.resize(usize::from(limits.params), true)?;
+    locals.resize(usize::from(limits.max_locals), false)?;
+    Ok(List::from_vec(locals))
+}
+
+/// Steps from the shape at a pc, if there is one, to the pcs that may be next. False where it cannot.
+fn visit(
+    alloc: Global,
+    code: &[u8],
+    limits: Limits,
+    shapes: &mut Vec<Option<Shape>>,
+    pc: u16,
+) -> Mem<bool>
+    requires long { length code.now ≤ 65535 }
+    requires instrs { HasInstrs code.now }
+    requires within { pc < length code.now }
+    requires sound { IsSound code.now limits shapes.old.items pc }
+    ensures sound { IfOk result (λ b. IsTrue b → IsSound code.now limits shapes.new.items (pc + 1)) }
+    ensures complete { IfOk result (λ b. (all : Shapes) → MeetsRules code.now limits all → Covers shapes.old.items all → IsTrue b × Covers shapes.new.items all) }
+{
+    let Some(shape) = &shapes[usize::from(pc)] else {
+        return Ok(true);
+    };
+    let Some((instr, next)) = thin_instr_at(code, pc) else {
+        return Ok(false);
+    };
+    let Some(after) = shape.after(alloc, instr, limits)? else {
+        return Ok(false);
+    };
+    flow(alloc, shapes, instr, next, &after)
+}
+
+/// Puts the shape after an instruction at the pcs that may be next. False where it cannot.
+fn flow(
+    alloc: Global,
+    shapes: &mut Vec<Option<Shape>>,
+    instr: ThinInstr,
+    next: u16,
+    after: &Shape,
+) -> Mem<bool>
+    requires { HaveLocals shapes.old.items (length after.now.locals) }
+    ensures flows { IfOk result (λ b. IsTrue b → FlowsTo shapes.old.items after.now (fall_of instr next) (target_of instr) shapes.new.items) }
+    ensures refuses { IfOk result (λ b. IsFalse b → CannotFlow shapes.old.items after.now (fall_of instr next) (target_of instr)) }
+{
+    let fall = if falls(instr) { Some(next) } else { None };
+    if !lead(alloc, shapes, fall, after)? {
+        return Ok(false);
+    }
+    lead(alloc, shapes, target_of_instr(instr), after)
+}
+
+/// Whether the instruction may be followed by the one behind it.
+fn falls(instr: ThinInstr) -> bool
+    ensures { result ≡ falls_through instr }
+{
+    !matches!(instr, Goto(_) | Ireturn | Return | Athrow)
+}
+
+/// Puts a shape at a pc, if one is given. False where it cannot: the code ends there, or the shape that is known there
+/// has another stack.
+fn lead(alloc: Global, shapes: &mut Vec<Option<Shape>>, pc: Option<u16>, shape: &Shape) -> Mem<bool>
+    requires { HaveLocals shapes.old.items (length shape.now.locals) }
+    ensures leads { IfOk result (λ b. IsTrue b → LeadsToAny shapes.old.items shape.now pc shapes.new.items) }
+    ensures refuses { IfOk result (λ b. IsFalse b → RefusesAny shapes.old.items shape.now pc) }
+    ensures locals { IfOk result (λ _. HaveLocals shapes.new.items (length shape.now.locals)) }
+{
+    let Some(pc) = pc else {
+        return Ok(true);
+    };
+    let pc = usize::from(pc);
+    if pc >= shapes.len() {
+        return Ok(false);
+    }
+    let Some(both) = joined(alloc, &shapes[pc], shape)? else {
+        return Ok(false);
+    };
+    shapes[pc] = Some(both);
+    Ok(true)
+}
+
+/// The shape where one meets the one that is known, if any. None where their stacks differ.
+fn joined(alloc: Global, known: &Option<Shape>, shape: &Shape) -> Mem<Option<Shape>>
+    requires { IfSome known.now (λ k. length k.locals ≡ length shape.now.locals) }
+    ensures { IfOk result (λ found. MatchOption found (Differs known.now shape.now) (λ both. JoinsFound known.now shape.now both)) }
+{
+    match known {
+        None => Ok(Some(shape.copy(alloc)?)),
+        Some(known) => known.meet(alloc, shape),
+    }
+}
+
+#[cfg(test)]
+mod tests {
+    use super::*;
+    use std::test::Fail;
+
+    /// The code of a method, how many parameters it has, whether it gives an int, and the most words on its stack and
+    /// in its locals.
+    struct Case(&'static [u8], u16, bool, u16, u16);
+
+    fn is_thin(alloc: Global, case: &Case) -> Mem<bool> {
+        let Case(code, params, gives_int, max_stack, max_locals) = case;
+        if code.len() > 65535 {
+            return Ok(false);
+        }
+        is_thin_code(alloc, code, *params, *gives_int, *max_stack, *max_locals)
+    }
+
+    const THIN: [Case; 12] = [
+        // two ints are compared, and null is thrown where they are the same
+        Case(
+            &[0x1a, 0x1b, 0xa0, 0x00, 0x05, 0x01, 0xbf, 0xb1],
+            2,
+            false,
+            2,
+            2,
+        ),
+        // an int is compared with itself by xor
+        Case(
+            &[0x1a, 0x1a, 0x82, 0x99, 0x00, 0x05, 0x01, 0xbf, 0xb1],
+            1,
+            false,
+            2,
+            1,
+        ),
+        // the parameter, -1 and -32768 are given back
+        Case(&[0x1a, 0xac], 1, true, 1, 1),
+        Case(&[0x10, 0xff, 0xac], 0, true, 1, 0),
+        Case(&[0x11, 0x80, 0x00, 0xac], 0, true, 1, 0),
+        // what is stored is loaded, also by the forms with an operand
+        Case(&[0x03, 0x3b, 0x1a, 0xac], 0, true, 1, 1),
+        Case(&[0x03, 0x36, 0x04, 0x15, 0x04, 0xac], 0, true, 1, 5),
+        // behind a return nothing has a shape, whatever stands there
+        Case(&[0xb1, 0x01, 0xbf], 0, false, 0, 0),
+        Case(&[0xb1, 0x82, 0xac], 0, false, 0, 0),
+        // a local is set on both ways to where it is loaded
+        Case(
+            &[
+                0x1a, 0x99, 0x00, 0x08, 0x04, 0x3c, 0xa7, 0x00, 0x05, 0x05, 0x3c, 0x1b, 0xac,
+            ],
+            1,
+            true,
+            1,
+            2,
+        ),
+        // an int stays on the stack on both ways
+        Case(
+            &[0x1a, 0x99, 0x00, 0x07, 0x04, 0xa7, 0x00, 0x04, 0x05, 0xac],
+            1,
+            true,
+            1,
+            1,
+        ),
+        // the other jumps
+        Case(
+            &[0x1a, 0x03, 0x9f, 0x00, 0x07, 0x1a, 0x9a, 0x00, 0x03, 0xb1],
+            1,
+            false,
+            2,
+            1,
+        ),
+    ];
+
+    const NOT_THIN: [Case; 24] = [
+        // nothing, an opcode that is none of thin code, an operand that is cut off, also behind a return
+        Case(&[], 0, false, 0, 0),
+        Case(&[0x00, 0xb1], 0, false, 0, 0),
+        Case(&[0x10], 0, true, 1, 0),
+        Case(&[0xb1, 0x11, 0x00], 0, false, 0, 0),
+        // a jump into an operand, back, to itself, to the end and past it, also behind a return
+        Case(&[0x1a, 0x99, 0x00, 0x04, 0x10, 0x01, 0xac], 1, true, 1, 1),
+        Case(&[0x1a, 0x99, 0xff, 0xff, 0xb1], 1, false, 1, 1),
+        Case(&[0xa7, 0x00, 0x00], 0, false, 0, 0),
+        Case(&[0x1a, 0x99, 0x00, 0x04, 0xb1], 1, false, 1, 1),
+        Case(&[0x1a, 0x99, 0x00, 0x09, 0xb1], 1, false, 1, 1),
+        Case(&[0xb1, 0xa7, 0x00, 0x04, 0x10, 0x01], 0, false, 0, 0),
+        // the code ends where an instruction may be next
+        Case(&[0x03], 0, false, 1, 0),
+        // more on the stack than it may hold
+        Case(
+            &[0x1a, 0x1b, 0xa0, 0x00, 0x05, 0x01, 0xbf, 0xb1],
+            2,
+            false,
+            1,
+            2,
+        ),
+        // an int is given where nothing is, and nothing where an int is
+        Case(&[0x1a, 0xac], 1, false, 1, 1),
+        Case(&[0xb1], 0, true, 0, 0),
+        // a local that is not set, or set on one of the ways only
+        Case(&[0x1a, 0xac], 0, true, 1, 1),
+        Case(
+            &[0x1a, 0x99, 0x00, 0x05, 0x04, 0x3c, 0x1b, 0xac],
+            1,
+            true,
+            1,
+            2,
+        ),
+        Case(
+            &[
+                0x1a, 0x99, 0x00, 0x06, 0xa7, 0x00, 0x05, 0x04, 0x3c, 0x1b, 0xac,
+            ],
+            1,
+            true,
+            1,
+            2,
+        ),
+        // a local that is past the last
+        Case(&[0x03, 0x3c, 0xb1], 0, false, 1, 1),
+        // stacks that differ where two ways meet
+        Case(&[0x1a, 0x99, 0x00, 0x04, 0x03, 0xb1], 1, false, 1, 1),
+        // an int is thrown, null is given as an int, one int is compared with nothing
+        Case(&[0x03, 0xbf], 0, false, 1, 0),
+        Case(&[0x01, 0xac], 0, true, 1, 0),
+        Case(&[0x1a, 0x82, 0xac], 1, true, 1, 1),
+        Case(&[0x1a, 0x9f, 0x00, 0x03, 0xb1], 1, false, 1, 1),
+        // more parameters than locals
+        Case(&[0xb1], 1, false, 0, 0),
+    ];
+
+    #[test]
+    fn thin(rt: HostRuntime) -> Result<(), Fail> {
+        for case in &THIN {
+            assert!(rt; is_thin(rt.alloc(), case)?, "{:?}", case.0);
+        }
+        Ok(())
+    }
+
+    #[test]
+    fn not_thin(rt: HostRuntime) -> Result<(), Fail> {
+        for case in &NOT_THIN {
+            assert!(rt; !is_thin(rt.alloc(), case)?, "{:?}", case.0);
+        }
+        Ok(())
+    }
+}

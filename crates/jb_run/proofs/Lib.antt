@@ -1,0 +1,4 @@
+pub mod LinesSoFar
+pub mod NoFloat
+pub mod Pieces
+pub mod SitesSoFar

@@ -1,0 +1,8 @@
+-- The lines so far were added.
+use Rattle.std.proofs.Common.{◌≡◌, ◌++◌, take, string_bytes}
+use Rattle.std.specs.List.{flat_map}
+use Rattle.jb_run.specs.OutputText.{line_text}
+use Rattle.jb_run.proofs.text.push_lines.Given as goal
+
+abbrev pub invariant-loop-line : goal.invariant-loop-line
+invariant-loop-line l = string_bytes l.out ≡ string_bytes l.fn.out ++ flat_map line_text (take l.line-index l.lines)

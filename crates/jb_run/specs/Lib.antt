@@ -1,0 +1,5 @@
+pub mod Cause
+pub mod Command
+pub mod OutputText
+pub mod Path
+pub mod Sites

@@ -1,0 +1,92 @@
+// Bits of the encoding, and the gates over them. A gate over equal, opposite or known bits gives its bit without a clause.
+use crate::formula::{Formula, Lit};
+use jv_base::Mem;
+use std::alloc::Global;
+
+/// A bit that is known, or the value of a literal.
+#[derive(Clone, Copy, Debug, PartialEq, Eq)]
+pub enum Bit {
+    Known(bool),
+    Of(Lit),
+}
+
+impl Bit {
+    pub fn not(self) -> Bit {
+        match self {
+            Bit::Known(value) => Bit::Known(!value),
+            Bit::Of(lit) => Bit::Of(lit.opposite()),
+        }
+    }
+}
+
+/// A bit with the value of a fresh variable.
+pub fn fresh(formula: &mut Formula) -> Mem<Bit> {
+    Ok(Bit::Of(formula.fresh()?))
+}
+
+// The literal that is true exactly where both are, which are of different variables.
+fn and_gate(alloc: Global, formula: &mut Formula, a: Lit, b: Lit) -> Mem<Lit> {
+    let both = formula.fresh()?;
+    formula.push(alloc, &[both.opposite(), a])?;
+    formula.push(alloc, &[both.opposite(), b])?;
+    formula.push(alloc, &[both, a.opposite(), b.opposite()])?;
+    Ok(both)
+}
+
+// The literal that is true exactly where the two differ, which are of different variables.
+fn xor_gate(alloc: Global, formula: &mut Formula, a: Lit, b: Lit) -> Mem<Lit> {
+    let differ = formula.fresh()?;
+    formula.push(alloc, &[differ.opposite(), a, b])?;
+    formula.push(alloc, &[differ.opposite(), a.opposite(), b.opposite()])?;
+    formula.push(alloc, &[differ, a.opposite(), b])?;
+    formula.push(alloc, &[differ, a, b.opposite()])?;
+    Ok(differ)
+}
+
+/// True exactly where both are.
+pub fn and(alloc: Global, formula: &mut Formula, a: Bit, b: Bit) -> Mem<Bit> {
+    match (a, b) {
+        (Bit::Known(true), _) => Ok(b),
+        (_, Bit::Known(true)) => Ok(a),
+        (Bit::Known(false), _) | (_, Bit::Known(false)) => Ok(Bit::Known(false)),
+        (Bit::Of(x), Bit::Of(y)) => {
+            if x.variable != y.variable {
+                Ok(Bit::Of(and_gate(alloc, formula, x, y)?))
+            } else if x.negated == y.negated {
+                Ok(a)
+            } else {
+                Ok(Bit::Known(false))
+            }
+        }
+    }
+}
+
+/// True exactly where one of them is, or both are.
+pub fn or(alloc: Global, formula: &mut Formula, a: Bit, b: Bit) -> Mem<Bit> {
+    Ok(and(alloc, formula, a.not(), b.not())?.not())
+}
+
+/// True exactly where the two differ.
+pub fn xor(alloc: Global, formula: &mut Formula, a: Bit, b: Bit) -> Mem<Bit> {
+    match (a, b) {
+        (Bit::Known(value), _) => Ok(if value { b.not() } else { b }),
+        (_, Bit::Known(value)) => Ok(if value { a.not() } else { a }),
+        (Bit::Of(x), Bit::Of(y)) => {
+            if x.variable != y.variable {
+                Ok(Bit::Of(xor_gate(alloc, formula, x, y)?))
+            } else {
+                Ok(Bit::Known(x.negated != y.negated))
+            }
+        }
+    }
+}
+
+/// `a` where `choice` is true, else `b`.
+pub fn mux(alloc: Global, formula: &mut Formula, choice: Bit, a: Bit, b: Bit) -> Mem<Bit> {
+    if a == b {
+        return Ok(a);
+    }
+    let from_a = and(alloc, formula, choice, a)?;
+    let from_b = and(alloc, formula, choice.not(), b)?;
+    or(alloc, formula, from_a, from_b)
+}

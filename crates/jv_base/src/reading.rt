@@ -1,0 +1,201 @@
+// The reader of a method's text form.
+ghost use Rattle.std.specs.Prelude.{◌≡◌, ◌≢◌, ℕ, ◌+◌, ◌^◌, ◌<◌, ◌≤◌, ◌∷◌, ◌++◌, ◌↔◌, false, List, length, IfSome, IfNone, IfOk, IsTrue};
+ghost use Rattle.std.specs.Char.{IsScalar};
+ghost use Rattle.std.specs.Str.{IsUtf8};
+ghost use Rattle.std.specs.Fmt.{digit_glyph};
+ghost use Rattle.jv_base.specs.declared.method.MethodId.{MethodId};
+ghost use Rattle.jv_base.specs.Descriptor.{IsMethodDescriptor};
+ghost use Rattle.jv_base.specs.Entry.{IsEntry};
+ghost use Rattle.jv_base.specs.Front.{HasFront};
+ghost use Rattle.jv_base.specs.Names.{IsClassName, IsMethodName};
+ghost use Rattle.jv_base.specs.Spelling.{IsUnit, unit_text, escape_text, character_text, name_text, entry_spelling};
+
+use crate::cut::{after_byte, cut};
+use crate::descriptor::is_method_descriptor;
+use crate::names::{is_class_name, is_method_name};
+use crate::spelling::is_plain;
+use crate::{MethodId, Name, TextFault};
+use std::alloc::Global;
+
+fn hex_value(digit: u8) -> Option<u16>
+    ensures found { IfSome result (λ v. (v < 16) × (digit ≡ digit_glyph false v)) }
+    ensures none { IfNone result ((v : ℕ) → v < 16 → digit ≢ digit_glyph false v) }
+{
+    match digit {
+        b'0'..=b'9' => Some(u16::from(digit - b'0')),
+        b'a'..=b'f' => Some(u16::from(digit - b'a') + 10),
+        _ => None,
+    }
+}
+
+// The hexadecimal digit that a text begins with, and what follows it.
+fn digit_of(text: &[u8]) -> Option<(u16, &[u8])>
+    ensures found { IfSome result (λ r. (r.0 < 16) × (text.now ≡ digit_glyph false r.0 ∷ r.1.now)) }
+    ensures none { IfNone result ((v : ℕ) (rest : List ℕ) → v < 16 → text.now ≢ digit_glyph false v ∷ rest) }
+{
+    let (first, rest) = text.split_first()?;
+    let value = hex_value(*first)?;
+    Some((value, rest))
+}
+
+// The UTF-16 unit that a text begins with, and what follows it.
+fn unit_of(text: &[u8]) -> Option<(u16, &[u8])>
+    ensures found { IfSome result (λ r. IsUnit r.0 × (text.now ≡ unit_text r.0 ++ r.1.now)) }
+    ensures none { IfNone result ((rest : List ℕ) → HasFront IsUnit unit_text text.now rest → ⊥) }
+{
+    let rest = after_byte(text, b'\\')?;
+    let rest = after_byte(rest, b'u')?;
+    let (a, rest) = digit_of(rest)?;
+    let (b, rest) = digit_of(rest)?;
+    let (c, rest) = digit_of(rest)?;
+    let (d, rest) = digit_of(rest)?;
+    Some((a * 4096 + b * 256 + c * 16 + d, rest))
+}
+
+fn is_low_surrogate(unit: u16) -> bool
+    ensures { IsTrue result ↔ ((0xdc00 ≤ unit) × (unit < 0xe000)) }
+{
+    matches!(unit, 0xdc00..=0xdfff)
+}
+
+// The character of two units of which the first, a surrogate, was read, and what follows them.
+fn pair_of(high: u16, text: &[u8]) -> Option<(char, &[u8])>
+    requires from { 0xd800 ≤ high }
+    requires to { high < 0xe000 }
+    ensures found { IfSome result (λ r. IsScalar r.0 × (unit_text high ++ text.now ≡ escape_text r.0 ++ r.1.now)) }
+    ensures none { IfNone result ((rest : List ℕ) → HasFront IsScalar escape_text (unit_text high ++ text.now) rest → ⊥) }
+{
+    if high >= 0xdc00 {
+        return None;
+    }
+    let (low, rest) = unit_of(text)?;
+    if !is_low_surrogate(low) {
+        return None;
+    }
+    let above = u32::from(high - 0xd800) * 1024 + u32::from(low - 0xdc00);
+    let c = char::from_u32(0x1_0000 + above)?;
+    Some((c, rest))
+}
+
+// The character whose UTF-16 units a text begins with, and what follows them.
+fn escape_of(text: &[u8]) -> Option<(char, &[u8])>
+    ensures found { IfSome result (λ r. IsScalar r.0 × (text.now ≡ escape_text r.0 ++ r.1.now)) }
+    ensures none { IfNone result ((rest : List ℕ) → HasFront IsScalar escape_text text.now rest → ⊥) }
+{
+    let (unit, rest) = unit_of(text)?;
+    match char::from_u32(u32::from(unit)) {
+        Some(c) => Some((c, rest)),
+        None => pair_of(unit, rest),
+    }
+}
+
+// The character that a text begins with, and what follows it.
+fn character_of(text: &[u8]) -> Option<(char, &[u8])>
+    ensures found { IfSome result (λ r. IsScalar r.0 × (text.now ≡ character_text r.0 ++ r.1.now)) }
+    ensures none { IfNone result ((rest : List ℕ) → HasFront IsScalar character_text text.now rest → ⊥) }
+    ensures shorter { IfSome result (λ r. length r.1.now < length text.now) }
+{
+    let (first, rest) = text.split_first()?;
+    let plain = char::from(*first);
+    if is_plain(plain) {
+        return Some((plain, rest));
+    }
+    let (c, rest) = escape_of(text)?;
+    if is_plain(c) {
+        return None;
+    }
+    Some((c, rest))
+}
+
+// The name that a text spells. The place is that of the text in a longer one, and a fault has the place where no
+// character was read.
+fn name_of(alloc: Global, text: &[u8], place: u64) -> Result<Name, TextFault>
+    requires { place + length text.now < 2 ^ 64 }
+    ensures found { IfOk result (λ n. IsUtf8 n × (text.now ≡ name_text n)) }
+    ensures bad { (at : ℕ) → result ≡ Err (TextFault.Bad at)
+        → (n : List ℕ) → IsUtf8 n → text.now ≡ name_text n → ⊥ }
+{
+    let mut name = Name::new(alloc);
+    let mut rest = text;
+    while !rest.is_empty() {
+        let Some((c, after)) = character_of(rest) else {
+            return Err(TextFault::Bad(place + (text.len() - rest.len()) as u64));
+        };
+        if name.push(c).is_err() {
+            return Err(TextFault::NoMemory);
+        }
+        rest = after;
+    }
+    Ok(name)
+}
+
+// The class name that a text spells.
+fn class_of(alloc: Global, text: &[u8], place: u64) -> Result<Name, TextFault>
+    requires { place + length text.now < 2 ^ 64 }
+    ensures found { IfOk result (λ n. IsUtf8 n × IsClassName n × (text.now ≡ name_text n)) }
+    ensures bad { (at : ℕ) → result ≡ Err (TextFault.Bad at)
+        → (n : List ℕ) → IsUtf8 n → IsClassName n → text.now ≡ name_text n → ⊥ }
+{
+    let name = name_of(alloc, text, place)?;
+    if is_class_name(name.as_str().as_bytes()) {
+        Ok(name)
+    } else {
+        Err(TextFault::Bad(place))
+    }
+}
+
+// The method name that a text spells.
+fn method_name_of(alloc: Global, text: &[u8], place: u64) -> Result<Name, TextFault>
+    requires { place + length text.now < 2 ^ 64 }
+    ensures found { IfOk result (λ n. IsUtf8 n × IsMethodName n × (text.now ≡ name_text n)) }
+    ensures bad { (at : ℕ) → result ≡ Err (TextFault.Bad at)
+        → (n : List ℕ) → IsUtf8 n → IsMethodName n → text.now ≡ name_text n → ⊥ }
+{
+    let name = name_of(alloc, text, place)?;
+    if is_method_name(name.as_str().as_bytes()) {
+        Ok(name)
+    } else {
+        Err(TextFault::Bad(place))
+    }
+}
+
+// The method descriptor that a text spells.
+fn descriptor_of(alloc: Global, text: &[u8], place: u64) -> Result<Name, TextFault>
+    requires { place + length text.now < 2 ^ 64 }
+    ensures found { IfOk result (λ n. IsUtf8 n × IsMethodDescriptor n × (text.now ≡ name_text n)) }
+    ensures bad { (at : ℕ) → result ≡ Err (TextFault.Bad at)
+        → (n : List ℕ) → IsUtf8 n → IsMethodDescriptor n → text.now ≡ name_text n → ⊥ }
+{
+    let name = name_of(alloc, text, place)?;
+    if is_method_descriptor(name.as_str().as_bytes()) {
+        Ok(name)
+    } else {
+        Err(TextFault::Bad(place))
+    }
+}
+
+/// The method whose text form this is. `Bad` comes where it is no entry's, and has a place where reading stopped.
+pub fn read_entry(alloc: Global, text: &str) -> Result<MethodId, TextFault>
+    ensures found { IfOk result (λ m. IsEntry m × (text.now ≡ entry_spelling m)) }
+    ensures bad { (place : ℕ) → result ≡ Err (TextFault.Bad place)
+        → (m : MethodId) → IsEntry m → text.now ≡ entry_spelling m → ⊥ }
+{
+    let bytes = text.as_bytes();
+    let Some((class, after_class)) = cut(bytes, b'.') else {
+        return Err(TextFault::Bad(bytes.len() as u64));
+    };
+    let Some((name, desc)) = cut(after_class, b':') else {
+        return Err(TextFault::Bad(bytes.len() as u64));
+    };
+    let name_place = (bytes.len() - after_class.len()) as u64;
+    let desc_place = (bytes.len() - desc.len()) as u64;
+    let class = class_of(alloc, class, 0)?;
+    let name = method_name_of(alloc, name, name_place)?;
+    let desc = descriptor_of(alloc, desc, desc_place)?;
+    Ok(MethodId { class, name, desc })
+}
+
+/// No two entries have one text form, so what `read_entry` gives is the one with this text.
+pub fn one_entry()
+    ensures { (m n : MethodId) → IsEntry m → IsEntry n → entry_spelling m ≡ entry_spelling n → m ≡ n }
+{}
