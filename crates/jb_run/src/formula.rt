@@ -1,5 +1,6 @@
 // A formula in conjunctive normal form over numbered variables.
-ghost use Rattle.std.specs.Prelude.{◌≡◌, ◌+◌, ◌∷◌, ◌++◌, ◌≤◌, OnOk, OnErr, IfOk};
+ghost use Rattle.std.specs.Prelude.{◌≡◌, ◌+◌, [], ◌∷◌, ◌++◌, false, not, OnOk, OnErr, IfOk};
+ghost use Rattle.jb_run.specs.Clauses.{clauses_of};
 
 use jv_base::Mem;
 use std::alloc::{AllocError, Global};
@@ -12,7 +13,9 @@ pub struct Lit {
 }
 
 impl Lit {
-    pub fn opposite(self) -> Lit {
+    pub fn opposite(self) -> Lit
+        ensures { result ≡ record self { negated = not self.negated } }
+    {
         Lit {
             variable: self.variable,
             negated: !self.negated,
@@ -35,7 +38,10 @@ pub struct Formula {
 
 impl Formula {
     /// No variable and no clause. It takes no memory.
-    pub fn new(alloc: Global) -> Formula {
+    pub fn new(alloc: Global) -> Formula
+        ensures variables { result.variables ≡ 0 }
+        ensures clauses { clauses_of result ≡ [] }
+    {
         Formula {
             variables: 0,
             clauses: Vec::new(alloc),
@@ -43,7 +49,12 @@ impl Formula {
     }
 
     /// A new variable, not negated.
-    pub fn fresh(&mut self) -> Mem<Lit> {
+    pub fn fresh(&mut self) -> Mem<Lit>
+        ensures lit { IfOk result (λ lit. lit ≡ record { variable = self.old.variables; negated = false }) }
+        ensures variables { OnOk result (self.new.variables ≡ self.old.variables + 1) }
+        ensures unchanged { OnErr result (self.new.variables ≡ self.old.variables) }
+        ensures clauses { clauses_of self.new ≡ clauses_of self.old }
+    {
         let variable = self.variables;
         let Some(more) = variable.checked_add(1) else {
             return Err(AllocError);
@@ -56,7 +67,11 @@ impl Formula {
     }
 
     /// Adds the clause of these literals.
-    pub fn push(&mut self, alloc: Global, lits: &[Lit]) -> Mem<()> {
+    pub fn push(&mut self, alloc: Global, lits: &[Lit]) -> Mem<()>
+        ensures ok { OnOk result (clauses_of self.new ≡ clauses_of self.old ++ lits.now ∷ []) }
+        ensures unchanged { OnErr result (clauses_of self.new ≡ clauses_of self.old) }
+        ensures variables { self.new.variables ≡ self.old.variables }
+    {
         let clause = Clause {
             lits: Vec::from_slice(alloc, lits)?,
         };

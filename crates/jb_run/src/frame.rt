@@ -1,4 +1,7 @@
 // The frame of a thin method under a guard: what its locals and its operand stack hold, as bits of the encoding.
+ghost use Rattle.std.specs.Prelude.{◌≡◌, ◌-◌, take, vec_len, slice_get, IfOk, OnOk, Some};
+ghost use Rattle.jb_run.specs.Bits.{local_at, int_inside};
+
 use crate::formula::Formula;
 use crate::gates::{Bit, or};
 use crate::word::{Word, mux_words};
@@ -23,7 +26,11 @@ pub struct Frame {
 
 impl Frame {
     /// The same values under another guard.
-    pub fn copy_under(&self, alloc: Global, guard: Bit) -> Mem<Frame> {
+    pub fn copy_under(&self, alloc: Global, guard: Bit) -> Mem<Frame>
+        ensures guard { IfOk result (λ frame. frame.guard ≡ guard) }
+        ensures locals { IfOk result (λ frame. frame.locals.items ≡ self.now.locals.items) }
+        ensures stack { IfOk result (λ frame. frame.stack.items ≡ self.now.stack.items) }
+    {
         Ok(Frame {
             guard,
             locals: Vec::from_slice(alloc, self.locals.as_slice())?,
@@ -32,14 +39,21 @@ impl Frame {
     }
 
     /// The int in a local, where it holds one.
-    pub fn local(&self, index: usize) -> Option<Word> {
+    pub fn local(&self, index: usize) -> Option<Word>
+        ensures { result ≡ local_at self.now.locals.items index }
+    {
         match self.locals.get(index) {
             Some(local) => *local,
             None => None,
         }
     }
 
-    pub fn set_local(&mut self, index: usize, word: Word) -> Mem<()> {
+    /// Stores an int in a local.
+    pub fn set_local(&mut self, index: usize, word: Word) -> Mem<()>
+        ensures stored { OnOk result (local_at self.new.locals.items index ≡ Some word) }
+        ensures stack { self.new.stack.items ≡ self.old.stack.items }
+        ensures guard { self.new.guard ≡ self.old.guard }
+    {
         while self.locals.len() <= index {
             self.locals.push(None)?;
         }
@@ -48,7 +62,12 @@ impl Frame {
     }
 
     /// Takes the int on top of the stack. None where there is none.
-    pub fn pop_int(&mut self) -> Option<Word> {
+    pub fn pop_int(&mut self) -> Option<Word>
+        ensures int { result ≡ int_inside (slice_get self.old.stack.items (vec_len self.old.stack - 1)) }
+        ensures rest { self.new.stack.items ≡ take (vec_len self.old.stack - 1) self.old.stack.items }
+        ensures locals { self.new.locals.items ≡ self.old.locals.items }
+        ensures guard { self.new.guard ≡ self.old.guard }
+    {
         match self.stack.pop() {
             Some(Operand::Int(word)) => Some(word),
             _ => None,

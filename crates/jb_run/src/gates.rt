@@ -1,4 +1,8 @@
 // Bits of the encoding, and the gates over them. A gate over equal, opposite or known bits gives its bit without a clause.
+ghost use Rattle.std.specs.Prelude.{◌≡◌, ◌+◌, false, IfOk, OnOk};
+ghost use Rattle.jb_run.specs.Bits.{opposite_bit};
+ghost use Rattle.jb_run.specs.Clauses.{clauses_of};
+
 use crate::formula::{Formula, Lit};
 use jv_base::Mem;
 use std::alloc::Global;
@@ -11,7 +15,10 @@ pub enum Bit {
 }
 
 impl Bit {
-    pub fn not(self) -> Bit {
+    /// The opposite value.
+    pub fn not(self) -> Bit
+        ensures { result ≡ opposite_bit self }
+    {
         match self {
             Bit::Known(value) => Bit::Known(!value),
             Bit::Of(lit) => Bit::Of(lit.opposite()),
@@ -20,7 +27,11 @@ impl Bit {
 }
 
 /// A bit with the value of a fresh variable.
-pub fn fresh(formula: &mut Formula) -> Mem<Bit> {
+pub fn fresh(formula: &mut Formula) -> Mem<Bit>
+    ensures bit { IfOk result (λ bit. bit ≡ Bit.Of (record { variable = formula.old.variables; negated = false })) }
+    ensures variables { OnOk result (formula.new.variables ≡ formula.old.variables + 1) }
+    ensures clauses { clauses_of formula.new ≡ clauses_of formula.old }
+{
     Ok(Bit::Of(formula.fresh()?))
 }
 
