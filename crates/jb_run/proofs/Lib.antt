@@ -1,4 +1,15 @@
+pub mod Defined
+pub mod GateSteps
+pub mod Answering
+pub mod Asking
 pub mod LinesSoFar
+pub mod MachinePins
+pub mod MachineRuns
 pub mod NoFloat
+pub mod Passing
 pub mod Pieces
 pub mod SitesSoFar
+pub mod WordInputs
+pub mod WordInts
+pub mod WordSteps
+pub mod Solving

@@ -1,6 +1,5 @@
 -- Bits of the encoding: known, or the value of a literal.
 use Rattle.std.specs.Prelude.{ℕ, not, List, Option, Some, None, slice_get}
-use Rattle.jb_run.specs.declared.formula.Lit.{Lit}
 use Rattle.jb_run.specs.declared.gates.Bit.{Bit}
 use Rattle.jb_run.specs.declared.gates.Bit.TheVariants.{Known, Of}
 use Rattle.jb_run.specs.declared.word.Word.{Word}

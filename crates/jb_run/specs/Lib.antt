@@ -2,7 +2,11 @@ pub mod Bits
 pub mod Cause
 pub mod Clauses
 pub mod Command
+pub mod Gate
+pub mod Machine
 pub mod OutputText
 pub mod Path
 pub mod Satisfies
 pub mod Sites
+pub mod Solved
+pub mod Violates

@@ -2,6 +2,8 @@
 ghost use Rattle.std.specs.Prelude.{◌≡◌, ◌+◌, false, IfOk, OnOk};
 ghost use Rattle.jb_run.specs.Bits.{opposite_bit};
 ghost use Rattle.jb_run.specs.Clauses.{clauses_of};
+ghost use Rattle.jb_run.specs.Satisfies.{IsBitBelow, AreClausesBelow};
+ghost use Rattle.jb_run.specs.Gate.{AreNamed, Continues, IsFresh, IsGate, both, either, different, chosen};
 
 use crate::formula::{Formula, Lit};
 use jv_base::Mem;
@@ -31,12 +33,17 @@ pub fn fresh(formula: &mut Formula) -> Mem<Bit>
     ensures bit { IfOk result (λ bit. bit ≡ Bit.Of (record { variable = formula.old.variables; negated = false })) }
     ensures variables { OnOk result (formula.new.variables ≡ formula.old.variables + 1) }
     ensures clauses { clauses_of formula.new ≡ clauses_of formula.old }
+    ensures keeps { Continues formula.old formula.new }
+    ensures input { AreClausesBelow formula.old.variables (clauses_of formula.old) → IfOk result (λ bit. IsFresh formula.old formula.new bit) }
 {
     Ok(Bit::Of(formula.fresh()?))
 }
 
 // The literal that is true exactly where both are, which are of different variables.
-fn and_gate(alloc: Global, formula: &mut Formula, a: Lit, b: Lit) -> Mem<Lit> {
+fn and_gate(alloc: Global, formula: &mut Formula, a: Lit, b: Lit) -> Mem<Lit>
+    ensures gate { AreNamed formula.old (Bit.Of a) (Bit.Of b) → IfOk result (λ lit. IsGate formula.old formula.new (Bit.Of lit) (both (Bit.Of a) (Bit.Of b))) }
+    ensures keeps { Continues formula.old formula.new }
+{
     let both = formula.fresh()?;
     formula.push(alloc, &[both.opposite(), a])?;
     formula.push(alloc, &[both.opposite(), b])?;
@@ -45,7 +52,10 @@ fn and_gate(alloc: Global, formula: &mut Formula, a: Lit, b: Lit) -> Mem<Lit> {
 }
 
 // The literal that is true exactly where the two differ, which are of different variables.
-fn xor_gate(alloc: Global, formula: &mut Formula, a: Lit, b: Lit) -> Mem<Lit> {
+fn xor_gate(alloc: Global, formula: &mut Formula, a: Lit, b: Lit) -> Mem<Lit>
+    ensures gate { AreNamed formula.old (Bit.Of a) (Bit.Of b) → IfOk result (λ lit. IsGate formula.old formula.new (Bit.Of lit) (different (Bit.Of a) (Bit.Of b))) }
+    ensures keeps { Continues formula.old formula.new }
+{
     let differ = formula.fresh()?;
     formula.push(alloc, &[differ.opposite(), a, b])?;
     formula.push(alloc, &[differ.opposite(), a.opposite(), b.opposite()])?;
@@ -55,7 +65,10 @@ fn xor_gate(alloc: Global, formula: &mut Formula, a: Lit, b: Lit) -> Mem<Lit> {
 }
 
 /// True exactly where both are.
-pub fn and(alloc: Global, formula: &mut Formula, a: Bit, b: Bit) -> Mem<Bit> {
+pub fn and(alloc: Global, formula: &mut Formula, a: Bit, b: Bit) -> Mem<Bit>
+    ensures gate { AreNamed formula.old a b → IfOk result (λ bit. IsGate formula.old formula.new bit (both a b)) }
+    ensures keeps { Continues formula.old formula.new }
+{
     match (a, b) {
         (Bit::Known(true), _) => Ok(b),
         (_, Bit::Known(true)) => Ok(a),
@@ -73,12 +86,18 @@ pub fn and(alloc: Global, formula: &mut Formula, a: Bit, b: Bit) -> Mem<Bit> {
 }
 
 /// True exactly where one of them is, or both are.
-pub fn or(alloc: Global, formula: &mut Formula, a: Bit, b: Bit) -> Mem<Bit> {
+pub fn or(alloc: Global, formula: &mut Formula, a: Bit, b: Bit) -> Mem<Bit>
+    ensures gate { AreNamed formula.old a b → IfOk result (λ bit. IsGate formula.old formula.new bit (either a b)) }
+    ensures keeps { Continues formula.old formula.new }
+{
     Ok(and(alloc, formula, a.not(), b.not())?.not())
 }
 
 /// True exactly where the two differ.
-pub fn xor(alloc: Global, formula: &mut Formula, a: Bit, b: Bit) -> Mem<Bit> {
+pub fn xor(alloc: Global, formula: &mut Formula, a: Bit, b: Bit) -> Mem<Bit>
+    ensures gate { AreNamed formula.old a b → IfOk result (λ bit. IsGate formula.old formula.new bit (different a b)) }
+    ensures keeps { Continues formula.old formula.new }
+{
     match (a, b) {
         (Bit::Known(value), _) => Ok(if value { b.not() } else { b }),
         (_, Bit::Known(value)) => Ok(if value { a.not() } else { a }),
@@ -93,7 +112,10 @@ pub fn xor(alloc: Global, formula: &mut Formula, a: Bit, b: Bit) -> Mem<Bit> {
 }
 
 /// `a` where `choice` is true, else `b`.
-pub fn mux(alloc: Global, formula: &mut Formula, choice: Bit, a: Bit, b: Bit) -> Mem<Bit> {
+pub fn mux(alloc: Global, formula: &mut Formula, choice: Bit, a: Bit, b: Bit) -> Mem<Bit>
+    ensures gate { AreNamed formula.old a b → IsBitBelow formula.old.variables choice → IfOk result (λ bit. IsGate formula.old formula.new bit (chosen choice a b)) }
+    ensures keeps { Continues formula.old formula.new }
+{
     if a == b {
         return Ok(a);
     }

@@ -5,6 +5,7 @@ mod encoder;
 mod formula;
 mod frame;
 mod gates;
+mod machine;
 mod report;
 mod sites;
 mod solver;

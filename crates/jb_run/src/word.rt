@@ -1,4 +1,9 @@
 // Ints of 32 bits as bits of the encoding, the lowest first.
+ghost use Rattle.std.specs.Prelude.{◌<◌, ℕ, Bool, IfOk};
+ghost use Rattle.jb_run.specs.Clauses.{clauses_of};
+ghost use Rattle.jb_run.specs.Satisfies.{IsBitBelow, AreClausesBelow};
+ghost use Rattle.jb_run.specs.Gate.{bit_at, Continues, IsWordNamed, AreWordsNamed, IsWordGate, IsTest, HasInt, IsFreshWord, HasNoBit, HaveSameBits, different, chosen};
+
 use crate::formula::Formula;
 use crate::gates::{Bit, and, fresh, mux, xor};
 use jv_base::Mem;
@@ -11,18 +16,23 @@ pub struct Word {
 }
 
 /// The int that is known.
-pub fn known(value: i32) -> Word {
-    let mut bits = [Bit::Known(value < 0); 32];
-    let mut rest = value;
+pub fn known(value: i32) -> Word
+    ensures int { (a : ℕ → Bool) → HasInt a result value }
+    ensures below { (n k : ℕ) → k < 32 → IsBitBelow n (bit_at result k) }
+{
+    let pattern = value.cast_unsigned();
+    let mut bits = [Bit::Known(false); 32];
     for i in 0..32 {
-        bits[i] = Bit::Known(rest & 1 != 0);
-        rest >>= 1;
+        bits[i] = Bit::Known((pattern >> i) & 1 == 1);
     }
     Word { bits }
 }
 
 /// An int of fresh variables.
-pub fn unknown(formula: &mut Formula) -> Mem<Word> {
+pub fn unknown(formula: &mut Formula) -> Mem<Word>
+    ensures input { AreClausesBelow formula.old.variables (clauses_of formula.old) → IfOk result (λ word. IsFreshWord formula.old formula.new word) }
+    ensures keeps { Continues formula.old formula.new }
+{
     let mut bits = [Bit::Known(false); 32];
     for i in 0..32 {
         bits[i] = fresh(formula)?;
@@ -31,7 +41,10 @@ pub fn unknown(formula: &mut Formula) -> Mem<Word> {
 }
 
 /// The exclusive or, bit by bit.
-pub fn xor_words(alloc: Global, formula: &mut Formula, a: &Word, b: &Word) -> Mem<Word> {
+pub fn xor_words(alloc: Global, formula: &mut Formula, a: &Word, b: &Word) -> Mem<Word>
+    ensures gate { AreWordsNamed formula.old a.now b.now → IfOk result (λ word. IsWordGate formula.old formula.new word (λ k. different (bit_at a.now k) (bit_at b.now k))) }
+    ensures keeps { Continues formula.old formula.new }
+{
     let mut bits = [Bit::Known(false); 32];
     for i in 0..32 {
         bits[i] = xor(alloc, formula, a.bits[i], b.bits[i])?;
@@ -40,13 +53,10 @@ pub fn xor_words(alloc: Global, formula: &mut Formula, a: &Word, b: &Word) -> Me
 }
 
 /// `a` where `choice` is true, else `b`.
-pub fn mux_words(
-    alloc: Global,
-    formula: &mut Formula,
-    choice: Bit,
-    a: &Word,
-    b: &Word,
-) -> Mem<Word> {
+pub fn mux_words(alloc: Global, formula: &mut Formula, choice: Bit, a: &Word, b: &Word) -> Mem<Word>
+    ensures gate { AreWordsNamed formula.old a.now b.now → IsBitBelow formula.old.variables choice → IfOk result (λ word. IsWordGate formula.old formula.new word (λ k. chosen choice (bit_at a.now k) (bit_at b.now k))) }
+    ensures keeps { Continues formula.old formula.new }
+{
     let mut bits = [Bit::Known(false); 32];
     for i in 0..32 {
         bits[i] = mux(alloc, formula, choice, a.bits[i], b.bits[i])?;
@@ -55,16 +65,22 @@ pub fn mux_words(
 }
 
 /// True exactly where the int is 0.
-pub fn is_zero(alloc: Global, formula: &mut Formula, a: &Word) -> Mem<Bit> {
+pub fn is_zero(alloc: Global, formula: &mut Formula, a: &Word) -> Mem<Bit>
+    ensures gate { IsWordNamed formula.old a.now → IfOk result (λ bit. IsTest formula.old formula.new bit (HasNoBit a.now)) }
+    ensures keeps { Continues formula.old formula.new }
+{
     let mut zero = Bit::Known(true);
-    for i in 0..32 {
-        zero = and(alloc, formula, zero, a.bits[i].not())?;
+    for index in 0..32 {
+        zero = and(alloc, formula, zero, a.bits[index].not())?;
     }
     Ok(zero)
 }
 
 /// True exactly where the two ints are equal.
-pub fn are_equal(alloc: Global, formula: &mut Formula, a: &Word, b: &Word) -> Mem<Bit> {
+pub fn are_equal(alloc: Global, formula: &mut Formula, a: &Word, b: &Word) -> Mem<Bit>
+    ensures gate { AreWordsNamed formula.old a.now b.now → IfOk result (λ bit. IsTest formula.old formula.new bit (HaveSameBits a.now b.now)) }
+    ensures keeps { Continues formula.old formula.new }
+{
     let difference = xor_words(alloc, formula, a, b)?;
     is_zero(alloc, formula, &difference)
 }

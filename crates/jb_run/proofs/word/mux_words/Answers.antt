@@ -1,0 +1,16 @@
+use Rattle.std.proofs.Common.{arith}
+use Rattle.jb_run.specs.Satisfies.{IsBitBelow}
+use Rattle.jb_run.specs.Gate.{AreWordsNamed, chosen, bit_at}
+use Rattle.jb_run.proofs.Defined.{bit_below_more}
+use Rattle.jb_run.proofs.WordSteps.{bits_more, named_later}
+use Rattle.jb_run.proofs.word.mux_words.Goals as goal
+
+pub loop-i-preserved : goal.loop-i-preserved
+loop-i-preserved c =
+    let old = c.args.formula.now in
+    let a = c.args.a.now in
+    let b = c.args.b.now in
+    let choice = c.args.choice in
+    bits_more (AreWordsNamed old a b × IsBitBelow old.variables choice) old c.loop-i.formula c.mux.new.formula c.loop-i.bits c.loop-i.i c.in_ok-bits.field-0 (λ k. chosen choice (bit_at a k) (bit_at b k))
+    c.loop-i.invariant (omega arith) c.mux.ensures.keeps
+    (λ p so. c.in_ok-bits.ensures.gate (named_later old c.loop-i.formula a b c.loop-i.i p.0 so.extends (omega arith)) (bit_below_more old.variables c.loop-i.formula.variables choice so.extends.grows p.1))

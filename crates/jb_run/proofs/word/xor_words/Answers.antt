@@ -1,0 +1,13 @@
+use Rattle.std.proofs.Common.{arith}
+use Rattle.jb_run.specs.Gate.{AreWordsNamed, different, bit_at}
+use Rattle.jb_run.proofs.WordSteps.{bits_more, named_later}
+use Rattle.jb_run.proofs.word.xor_words.Goals as goal
+
+pub loop-i-preserved : goal.loop-i-preserved
+loop-i-preserved c =
+    let old = c.args.formula.now in
+    let a = c.args.a.now in
+    let b = c.args.b.now in
+    bits_more (AreWordsNamed old a b) old c.loop-i.formula c.xor.new.formula c.loop-i.bits c.loop-i.i c.in_ok-bits.field-0 (λ k. different (bit_at a k) (bit_at b k))
+    c.loop-i.invariant (omega arith) c.xor.ensures.keeps
+    (λ named so. c.in_ok-bits.ensures.gate (named_later old c.loop-i.formula a b c.loop-i.i named so.extends (omega arith)))

@@ -1,0 +1,403 @@
+// The machine of thin code: a plain interpreter, which runs a method on the ints of an input.
+ghost use Rattle.std.specs.Prelude.{◌≡◌, ℕ, ◌↔◌, ◌≤◌, length, IfOk};
+ghost use Rattle.jb_run.specs.Machine as machine;
+ghost use Rattle.jb_run.specs.Violates.{RunViolates};
+
+use cf_class::{ThinInstr, thin_instr_at};
+use jv_base::{Kind, List, Mem, Value};
+use std::alloc::{AllocError, Global};
+
+/// The state of a run: its only frame (JVM Specification SE 8, 2.6). A local that is None, or past the end of the list,
+/// holds nothing. The top of the operand stack is the last.
+#[derive(Debug, Drop)]
+pub struct State {
+    pub pc: u16,
+    pub locals: List<Option<Value>>,
+    pub stack: List<Value>,
+}
+
+/// What a step comes to.
+#[derive(Debug, Drop)]
+pub enum Outcome {
+    /// The run goes on from this state.
+    Next(State),
+    /// The instruction raises a fault of this kind.
+    Raised(Kind),
+    /// The method returns.
+    Ended,
+    /// There is no instruction, or it does not find what it needs. Code that passes the shape rules never comes here.
+    Stuck,
+}
+
+// The value on top of the stack, and what is below it.
+fn pop(stack: List<Value>) -> (Option<Value>, List<Value>)
+    ensures top { result.0 ≡ machine.top stack }
+    ensures below { result.1 ≡ machine.below stack }
+{
+    let mut values = stack.into_vec();
+    let top = values.pop();
+    (top, List::from_vec(values))
+}
+
+// The int on top of the stack, where there is one, and what is below it.
+fn pop_int(stack: List<Value>) -> (Option<i32>, List<Value>)
+    ensures int { result.0 ≡ machine.int_inside (machine.top stack) }
+    ensures below { result.1 ≡ machine.below stack }
+{
+    let (top, below) = pop(stack);
+    (int_inside(top), below)
+}
+
+fn int_inside(value: Option<Value>) -> Option<i32>
+    ensures { result ≡ machine.int_inside value }
+{
+    match value {
+        Some(Value::Int(n)) => Some(n),
+        _ => None,
+    }
+}
+
+// The value in a local, where it holds one.
+fn local_at(locals: &List<Option<Value>>, index: u8) -> Option<Value>
+    ensures { result ≡ machine.local_at locals.now index }
+{
+    match locals.as_slice().get(usize::from(index)) {
+        Some(local) => *local,
+        None => None,
+    }
+}
+
+// The locals where one of them is written.
+fn with_local(locals: List<Option<Value>>, index: u8, value: Value) -> Mem<List<Option<Value>>>
+    ensures { IfOk result (λ new. new ≡ machine.with_local locals index value) }
+{
+    let mut locals = locals.into_vec();
+    let index = usize::from(index);
+    'room: while locals.len() <= index {
+        locals.push(None)?;
+    }
+    locals[index] = Some(value);
+    Ok(List::from_vec(locals))
+}
+
+// A value is pushed: the constants.
+fn push(state: State, value: Value, next: u16) -> Mem<Outcome>
+    ensures { IfOk result (λ o. o ≡ machine.push value next state) }
+{
+    let State {
+        pc: _,
+        locals,
+        mut stack,
+    } = state;
+    stack.push(value).map_err(|_| AllocError)?;
+    Ok(Outcome::Next(State {
+        pc: next,
+        locals,
+        stack,
+    }))
+}
+
+fn load(state: State, index: u8, next: u16) -> Mem<Outcome>
+    ensures { IfOk result (λ o. o ≡ machine.load index next state) }
+{
+    match int_inside(local_at(&state.locals, index)) {
+        Some(n) => push(state, Value::Int(n), next),
+        None => Ok(Outcome::Stuck),
+    }
+}
+
+fn store(state: State, index: u8, next: u16) -> Mem<Outcome>
+    ensures { IfOk result (λ o. o ≡ machine.store index next state) }
+{
+    let State {
+        pc: _,
+        locals,
+        stack,
+    } = state;
+    match pop_int(stack) {
+        (Some(n), rest) => Ok(Outcome::Next(State {
+            pc: next,
+            locals: with_local(locals, index, Value::Int(n))?,
+            stack: rest,
+        })),
+        (None, _) => Ok(Outcome::Stuck),
+    }
+}
+
+// The two ints on top of the stack, where they are ints, and what is below them. The second was on top.
+fn pop_ints(stack: List<Value>) -> (Option<i32>, Option<i32>, List<Value>)
+    ensures first { result.0 ≡ machine.int_inside (machine.top (machine.below stack)) }
+    ensures second { result.1 ≡ machine.int_inside (machine.top stack) }
+    ensures below { result.2 ≡ machine.below (machine.below stack) }
+{
+    let (b, rest) = pop_int(stack);
+    let (a, rest) = pop_int(rest);
+    (a, b, rest)
+}
+
+fn exclusive_or(state: State, next: u16) -> Mem<Outcome>
+    ensures { IfOk result (λ o. o ≡ machine.exclusive_or next state) }
+{
+    let State {
+        pc: _,
+        locals,
+        stack,
+    } = state;
+    match pop_ints(stack) {
+        (Some(a), Some(b), mut stack) => {
+            stack.push(Value::Int(a ^ b)).map_err(|_| AllocError)?;
+            Ok(Outcome::Next(State {
+                pc: next,
+                locals,
+                stack,
+            }))
+        }
+        _ => Ok(Outcome::Stuck),
+    }
+}
+
+// An int is popped: the run goes on at the first pc where it is 0, else at the other.
+fn branch_on_zero(state: State, zero_pc: u16, other_pc: u16) -> Outcome
+    ensures { result ≡ machine.branch_on_zero zero_pc other_pc state }
+{
+    let State {
+        pc: _,
+        locals,
+        stack,
+    } = state;
+    match pop_int(stack) {
+        (Some(n), stack) => {
+            let pc = if n == 0 { zero_pc } else { other_pc };
+            Outcome::Next(State { pc, locals, stack })
+        }
+        (None, _) => Outcome::Stuck,
+    }
+}
+
+// Two ints are popped: the run goes on at the first pc where they are equal, else at the other.
+fn branch_on_equal(state: State, equal_pc: u16, other_pc: u16) -> Outcome
+    ensures { result ≡ machine.branch_on_equal equal_pc other_pc state }
+{
+    let State {
+        pc: _,
+        locals,
+        stack,
+    } = state;
+    match pop_ints(stack) {
+        (Some(a), Some(b), stack) => {
+            let pc = if a == b { equal_pc } else { other_pc };
+            Outcome::Next(State { pc, locals, stack })
+        }
+        _ => Outcome::Stuck,
+    }
+}
+
+fn jumps_to(state: State, pc: u16) -> Outcome
+    ensures { result ≡ machine.goes_to state pc state.stack }
+{
+    let State {
+        pc: _,
+        locals,
+        stack,
+    } = state;
+    Outcome::Next(State { pc, locals, stack })
+}
+
+fn throw(state: State) -> Outcome
+    ensures { result ≡ machine.throw (machine.top state.stack) }
+{
+    let State {
+        pc: _,
+        locals: _,
+        stack,
+    } = state;
+    match pop(stack) {
+        (Some(Value::Ref(None)), _) => Outcome::Raised(Kind::Null),
+        _ => Outcome::Stuck,
+    }
+}
+
+fn give(state: State) -> Outcome
+    ensures { result ≡ machine.give state }
+{
+    let State {
+        pc: _,
+        locals: _,
+        stack,
+    } = state;
+    match pop_int(stack) {
+        (Some(_), _) => Outcome::Ended,
+        (None, _) => Outcome::Stuck,
+    }
+}
+
+// What an instruction does to the state.
+fn execute(state: State, instr: ThinInstr, next: u16) -> Mem<Outcome>
+    ensures { IfOk result (λ o. o ≡ machine.step_of instr next state) }
+{
+    match instr {
+        ThinInstr::AconstNull => push(state, Value::Ref(None), next),
+        ThinInstr::Iconst(value) => push(state, Value::Int(value), next),
+        ThinInstr::Iload(index) => load(state, index, next),
+        ThinInstr::Istore(index) => store(state, index, next),
+        ThinInstr::Ixor => exclusive_or(state, next),
+        ThinInstr::Ifeq(target) => Ok(branch_on_zero(state, target, next)),
+        ThinInstr::Ifne(target) => Ok(branch_on_zero(state, next, target)),
+        ThinInstr::IfIcmpeq(target) => Ok(branch_on_equal(state, target, next)),
+        ThinInstr::IfIcmpne(target) => Ok(branch_on_equal(state, next, target)),
+        ThinInstr::Goto(target) => Ok(jumps_to(state, target)),
+        ThinInstr::Ireturn => Ok(give(state)),
+        ThinInstr::Return => Ok(Outcome::Ended),
+        ThinInstr::Athrow => Ok(throw(state)),
+    }
+}
+
+/// One step of thin code.
+pub fn step(code: &[u8], state: State) -> Mem<Outcome>
+    requires { length code.now ≤ 65535 }
+    ensures { IfOk result (λ o. o ≡ machine.step code.now state) }
+{
+    match thin_instr_at(code, state.pc) {
+        Some((instr, next)) => execute(state, instr, next),
+        None => Ok(Outcome::Stuck),
+    }
+}
+
+/// The state where a method begins with these ints as its parameters.
+pub fn start(alloc: Global, ints: &[i32]) -> Mem<State>
+    ensures { IfOk result (λ s. s ≡ machine.start ints.now) }
+{
+    let mut locals = Vec::new(alloc);
+    for n in ints {
+        locals.push(Some(Value::Int(*n)))?;
+    }
+    Ok(State {
+        pc: 0,
+        locals: List::from_vec(locals),
+        stack: List::new(alloc),
+    })
+}
+
+/// Where the run of these ints raises a fault, and the kind. None where it raises none. The run ends: it has no more steps
+/// than the code has bytes.
+#[tactic(auto, using(crate::proofs::MachineRuns::run_ends))]
+pub fn violated(alloc: Global, code: &[u8], ints: &[i32]) -> Mem<Option<(u16, Kind)>>
+    requires { length code.now ≤ 65535 }
+    ensures violates { IfOk result (λ found. (pc : ℕ) (kind : Kind) → (found ≡ Some (pc, kind)) ↔ RunViolates code.now ints.now pc kind) }
+    ensures ends { (n : ℕ) (state : State) → machine.after code.now n (machine.start ints.now) ≡ Some state → n ≤ length code.now }
+{
+    let mut state = start(alloc, ints)?;
+    'run: loop {
+        let pc = state.pc;
+        match step(code, state)? {
+            Outcome::Next(next) => state = next,
+            Outcome::Raised(kind) => return Ok(Some((pc, kind))),
+            Outcome::Ended | Outcome::Stuck => return Ok(None),
+        }
+    }
+}
+
+#[cfg(test)]
+mod tests {
+    use super::*;
+    use std::test::Fail;
+
+    /// Code, ints for its first locals, and where the run throws null.
+    type Case = (&'static [u8], &'static [i32], Option<u16>);
+
+    // A throw where two ints are equal.
+    const EQUAL_INTS: &[u8] = &[0x1a, 0x1b, 0xa0, 0x00, 0x05, 0x01, 0xbf, 0xb1];
+
+    // A throw where an int differs from itself.
+    const XOR_SELF: &[u8] = &[0x1a, 0x1a, 0x82, 0x99, 0x00, 0x05, 0x01, 0xbf, 0xb1];
+
+    // javac of `if (a == b) { if (c == 0) throw null; }`.
+    const NESTED: &[u8] = &[
+        0x1a, 0x1b, 0xa0, 0x00, 0x09, 0x1c, 0x9a, 0x00, 0x05, 0x01, 0xbf, 0xb1,
+    ];
+
+    // javac of `int c = a ^ b; if (c != 300) return c; throw null;`.
+    const DIFFERENCE: &[u8] = &[
+        0x1a, 0x1b, 0x82, 0x3d, 0x1c, 0x11, 0x01, 0x2c, 0x9f, 0x00, 0x05, 0x1c, 0xac, 0x01, 0xbf,
+    ];
+
+    // javac of `int t = a ^ -32768; if (t == 0) throw null; return t;`.
+    const SIGNED_SHORT: &[u8] = &[
+        0x1a, 0x11, 0x80, 0x00, 0x82, 0x3c, 0x1b, 0x9a, 0x00, 0x05, 0x01, 0xbf, 0x1b, 0xac,
+    ];
+
+    // javac of `if (a == 5) throw null; if (b != 1000) return; throw null;`.
+    const TWO_THROWS: &[u8] = &[
+        0x1a, 0x08, 0xa0, 0x00, 0x05, 0x01, 0xbf, 0x1b, 0x11, 0x03, 0xe8, 0x9f, 0x00, 0x04, 0xb1,
+        0x01, 0xbf,
+    ];
+
+    // javac of `int y; if (a == b) y = c; else y = d; int z = y ^ x; if (z == -1) throw null; return z;`.
+    const MANY_LOCALS: &[u8] = &[
+        0x1a, 0x1b, 0xa0, 0x00, 0x09, 0x1c, 0x36, 0x05, 0xa7, 0x00, 0x06, 0x1d, 0x36, 0x05, 0x15,
+        0x05, 0x15, 0x04, 0x82, 0x36, 0x06, 0x15, 0x06, 0x02, 0xa0, 0x00, 0x05, 0x01, 0xbf, 0x15,
+        0x06, 0xac,
+    ];
+
+    // What the JVM answers for these methods.
+    const METHODS: [Case; 24] = [
+        (EQUAL_INTS, &[7, 7], Some(6)),
+        (EQUAL_INTS, &[7, 1], None),
+        (XOR_SELF, &[7], None),
+        (XOR_SELF, &[-2147483648], None),
+        (NESTED, &[3, 3, 0], Some(10)),
+        (NESTED, &[3, 3, 1], None),
+        (NESTED, &[3, 4, 0], None),
+        (DIFFERENCE, &[2147483647, 2147483347], Some(14)),
+        (DIFFERENCE, &[-1, -301], Some(14)),
+        (DIFFERENCE, &[301, 1], Some(14)),
+        (DIFFERENCE, &[300, 300], None),
+        (DIFFERENCE, &[1, 300], None),
+        (SIGNED_SHORT, &[-32768], Some(11)),
+        (SIGNED_SHORT, &[32768], None),
+        (SIGNED_SHORT, &[0], None),
+        (TWO_THROWS, &[5, 1000], Some(6)),
+        (TWO_THROWS, &[5, 0], Some(6)),
+        (TWO_THROWS, &[4, 1000], Some(16)),
+        (TWO_THROWS, &[4, 1001], None),
+        (MANY_LOCALS, &[1, 1, -2147483648, 9, 2147483647], Some(28)),
+        (MANY_LOCALS, &[1, 2, -2147483648, 9, 2147483647], None),
+        (MANY_LOCALS, &[1, 2, 3, -10, 9], Some(28)),
+        (MANY_LOCALS, &[2, 2, 3, -10, 9], None),
+        (MANY_LOCALS, &[0, 0, 0, 0, -1], Some(28)),
+    ];
+
+    // Code with no next instruction, or whose instruction does not find what it needs; and code past such places.
+    const ROUGH: [Case; 10] = [
+        (&[], &[], None),
+        (&[0x60], &[], None),
+        (&[0x1a, 0xac], &[], None),
+        (&[0x01, 0x99, 0x00, 0x04, 0x01, 0xbf], &[], None),
+        (&[0x82], &[], None),
+        (&[0xbf], &[], None),
+        (&[0x04, 0xbf], &[], None),
+        (&[0xa7, 0x00, 0x04, 0x00, 0x01, 0xbf], &[], Some(5)),
+        (&[0x04, 0x3e, 0x01, 0xbf], &[], Some(3)),
+        (&[0x04, 0x3e, 0x1c, 0x01, 0xbf], &[], None),
+    ];
+
+    #[test]
+    fn answers_as_the_jvm(rt: HostRuntime) -> Result<(), Fail> {
+        for (code, ints, raises) in &METHODS {
+            assert!(rt; code.len() <= 65535);
+            let found = violated(rt.alloc(), code, ints)?;
+            assert_eq!(rt; found, raises.map(|pc| (pc, Kind::Null)));
+        }
+        Ok(())
+    }
+
+    #[test]
+    fn gets_stuck(rt: HostRuntime) -> Result<(), Fail> {
+        for (code, ints, raises) in &ROUGH {
+            assert!(rt; code.len() <= 65535);
+            let found = violated(rt.alloc(), code, ints)?;
+            assert_eq!(rt; found, raises.map(|pc| (pc, Kind::Null)));
+        }
+        Ok(())
+    }
+}
