@@ -1,6 +1,6 @@
 use crate::{
-    Goal, Kind, Mem, MethodId, Name, Site, TextFault, compare_goals, entry_text, push_name_text,
-    read_entry, site_text,
+    Goal, Kind, List, Mem, MethodId, Name, Site, TextFault, TryCopy, compare_goals, entry_text,
+    push_name_text, read_entry, site_text,
 };
 use std::alloc::Global;
 use std::cmp::Ordering;
@@ -158,5 +158,81 @@ fn names_are_put_at_the_end(rt: HostRuntime) -> Result<(), Fail> {
     let mut out = String::from_str(alloc, "to ")?;
     push_name_text(&mut out, &Name::from_text(alloc, "a/é")?)?;
     assert_eq!(rt; out.as_str(), "to a/\\u00e9");
+    Ok(())
+}
+
+// Names of the given texts, as a list.
+fn list_of(alloc: Global, texts: &[&str]) -> Mem<List<Name>> {
+    let mut names = List::new(alloc);
+    for text in texts {
+        if names.push(Name::from_text(alloc, text)?).is_err() {
+            return Err(std::alloc::AllocError);
+        }
+    }
+    Ok(names)
+}
+
+fn is_list_of(list: &List<Name>, texts: &[&str]) -> bool {
+    list.length() == texts.len()
+        && list
+            .as_slice()
+            .iter()
+            .zip(texts)
+            .all(|(name, text)| name.as_str() == *text)
+}
+
+#[test]
+fn lists_grow_and_are_copied(rt: HostRuntime) -> Result<(), Fail> {
+    let alloc = rt.alloc();
+    let texts = ["a", "é", ""];
+    let list = list_of(alloc, &texts)?;
+    assert!(rt; is_list_of(&list, &texts));
+    assert!(rt; list.length() == 3);
+    assert_eq!(rt; list.at(1).as_str(), "é");
+    let copy = list.copy(alloc)?;
+    assert!(rt; is_list_of(&list, &texts));
+    assert!(rt; is_list_of(&copy, &texts));
+    let again = List::from_vec(copy.into_vec());
+    assert!(rt; is_list_of(&again, &texts));
+    assert!(rt; is_list_of(&List::new(alloc), &[]));
+    Ok(())
+}
+
+#[test]
+fn names_grow_and_are_copied(rt: HostRuntime) -> Result<(), Fail> {
+    let alloc = rt.alloc();
+    let mut name = Name::new(alloc);
+    assert_eq!(rt; name.length(), 0);
+    name.push_text("ab")?;
+    assert!(rt; name.push('é').is_ok());
+    assert_eq!(rt; name.as_str(), "abé");
+    assert!(rt; name.length() == 4);
+    assert_eq!(rt; name.at(3), 0xa9);
+    let copy = name.copy(alloc)?;
+    assert!(rt; copy.equals(&name));
+    let other = Name::from_string(String::from_str(alloc, "abe")?);
+    assert!(rt; !other.equals(&name));
+    let generic = TryCopy::copy(&other, alloc)?;
+    assert!(rt; generic.equals(&other));
+    let method = method(alloc, "T", "f", "()V")?;
+    assert!(rt; method.copy(alloc)?.name.equals(&method.name));
+    assert!(rt; TryCopy::copy(&method, alloc)?.class.equals(&method.class));
+    Ok(())
+}
+
+// Texts in the order of their UTF-8 bytes: the first UTF-16 unit of the last is below that of the one before.
+const ORDERED: [&str; 6] = ["", "A", "AB", "a", "\u{ffff}", "\u{10000}"];
+
+#[test]
+fn names_are_in_order(rt: HostRuntime) -> Result<(), Fail> {
+    let alloc = rt.alloc();
+    for pair in ORDERED.windows(2) {
+        let [low, high] = pair else { continue };
+        let low = Name::from_text(alloc, low)?;
+        let high = Name::from_text(alloc, high)?;
+        assert_eq!(rt; low.compare(&high), Ordering::Less);
+        assert_eq!(rt; high.compare(&low), Ordering::Greater);
+        assert_eq!(rt; low.compare(&low), Ordering::Equal);
+    }
     Ok(())
 }
