@@ -1,5 +1,5 @@
 -- Runs of thin code: one step more, at most one end, and no more steps than the code has bytes.
-use Rattle.std.proofs.Common.{◌≡◌, ◌+◌, ◌-◌, ◌<◌, ◌≤◌, ◌↔◌, ◌⊎◌, inl, inr, ℕ, zero, suc, ℤ, pos, List, [], ◌∷◌, ◌++◌, length, replicate, Option, Some, None, refl, sym, ap, ◌∙◌, subst, append_assoc, length-append, arith}
+use Rattle.std.proofs.Common.{◌≡◌, ◌-◌, ◌<◌, ◌≤◌, ◌↔◌, ◌⊎◌, inl, inr, ℕ, zero, suc, ℤ, pos, List, [], ◌∷◌, ◌++◌, length, Option, Some, None, refl, sym, ap, ◌∙◌, subst, arith}
 use Rattle.std.proofs.Common.{Bool, true, false, if◌then◌else◌}
 use Rattle.std.specs.Int.{w32, int_bit_xor}
 use Rattle.std.specs.Ordering.{int_eq}
@@ -16,14 +16,10 @@ use Rattle.cf_class.proofs.Opcodes.{instr_ends, target_forward}
 use Rattle.jb_run.specs.declared.machine.State.{State}
 use Rattle.jb_run.specs.declared.machine.Outcome.{Outcome}
 use Rattle.jb_run.specs.declared.machine.Outcome.TheVariants.{Next, Raised, Ended, Stuck}
-use Rattle.jb_run.specs.Machine.{int_inside, top, below, local_at, with_room, with_local, with_int, with_ints, goes_to, push, load, store, exclusive_or, branch_on_zero, branch_on_equal, throw, give, step_of, step_found, step, on_next, after, start}
+use Rattle.jb_run.specs.Machine.{int_inside, with_int, with_ints, goes_to, push, load, store, exclusive_or, branch_on_zero, branch_on_equal, throw, give, step_of, step_found, step, on_next, after, start}
+use Rattle.jb_run.specs.Locals.{local_at, with_local}
+use Rattle.jb_run.specs.Stack.{top, below}
 use Rattle.jb_run.specs.Violates.{RunViolates}
-
--- a local that holds nothing is one of those that are added
-pub room_more : (locals : List (Option Value)) (index : ℕ) → length locals ≤ index → with_room (locals ++ None ∷ []) index ≡ with_room locals index
-room_more locals index short =
-    let count : index + 1 - length locals ≡ suc (index + 1 - length (locals ++ None ∷ [])) = omega (arith, length-append locals (None ∷ [])) in
-    append_assoc locals (None ∷ []) (replicate (index + 1 - length (locals ++ None ∷ [])) None) ∙ ap (λ n. locals ++ replicate n None) (sym count)
 
 -- a step by the instruction at the pc
 pub step_some : (code : List ℕ) (state : State) (instr : ThinInstr) (next : ℕ) → instr_at code state.pc ≡ Some (instr, next) → step code state ≡ step_of instr next state

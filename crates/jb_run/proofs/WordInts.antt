@@ -10,14 +10,14 @@ use Rattle.std.proofs.lemmas.Nat.Bits.{shr_and_one, bit_at-lt, same_from_bits_be
 use Rattle.jb_run.specs.declared.word.Word.{Word}
 use Rattle.jb_run.specs.Gate.{HasInt, HaveSameBits, bit_of}
 
-bit_is : (t : Bool) (n k : ℕ) → (IsTrue t ↔ IsBitSet n k) → int.bit_at n k ≡ (if t then 1 else 0)
+pub bit_is : (t : Bool) (n k : ℕ) → (IsTrue t ↔ IsBitSet n k) → int.bit_at n k ≡ (if t then 1 else 0)
 bit_is true n k h = sym (shr_and_one n k) ∙ (bit_set_by_shift n k).1 (h.0 refl)
 bit_is false n k h =
     let below = bit_at-lt n k in
     let no_one : int.bit_at n k ≡ 1 → ⊥ = λ e. let wrong : false ≡ true = h.1 ((bit_set_by_shift n k).0 (shr_and_one n k ∙ e)) in cc in
     omega (arith, below, no_one)
 
-pattern_below : (n : ℤ) → FitsSigned w32 n → cast_unsigned w32 n < 2 ^ 32
+pub pattern_below : (n : ℤ) → FitsSigned w32 n → cast_unsigned w32 n < 2 ^ 32
 pattern_below n fits = let h : Fits w32 (cast_unsigned w32 n) = Fits-of_z fits in omega (arith, h)
 
 -- ints with the same bits are equal

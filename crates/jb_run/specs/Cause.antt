@@ -12,6 +12,7 @@ use Rattle.jb_run.specs.declared.report.Was.TheVariants.{Found, Absent, TooLong}
 use Rattle.jb_run.specs.declared.report.Line.{Line}
 use Rattle.jb_run.specs.declared.report.Report.{Report}
 use Rattle.jb_run.specs.Command.{CommandOf, IsCommand, IsUsage}
+use Rattle.jb_run.specs.Justified.{AreJustified}
 use Rattle.jb_run.specs.OutputText.{failure_count, AreIntLines}
 use Rattle.jb_run.specs.Path.{class_path}
 use Rattle.jb_run.specs.Sites.{IsSites}
@@ -20,11 +21,13 @@ use Rattle.jb_run.specs.Sites.{IsSites}
 abbrev pub status_of : List Line → ℕ
 status_of lines = if failure_count lines == 0 then 0 else 10
 
--- the bytes are a class with the thin method of the entry, and the lines are for its sites, in order
+-- the bytes are a class with the thin method of the entry, and the lines are for its sites, in order, with verdicts that are
+-- true of it
 pub record AreLinesOf (bytes : List ℕ) (entry : MethodId) (lines : List Line) : Type 0 where
   pub method : ThinMethod
   pub thin : Thin bytes entry method
   pub sites : IsSites entry method.code (map (λ line. line.goal) lines)
+  pub justified : AreJustified method.code entry lines
 
 -- the folder's answer is a class with the thin method of the entry, and the lines are for its sites
 abbrev pub HasLines : MethodId → Was → List Line → Type 0

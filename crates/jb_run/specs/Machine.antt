@@ -1,5 +1,5 @@
 -- The machine of thin code: what each instruction does to the state of a run, in the JVM Specification SE 8's terms.
-use Rattle.std.specs.Prelude.{ℕ, zero, suc, ◌+◌, ◌-◌, ℤ, pos, if◌then◌else◌, List, [], ◌∷◌, ◌++◌, length, map, take, replicate, slice_get, slice_set, Option, Some, None}
+use Rattle.std.specs.Prelude.{ℕ, zero, suc, ℤ, pos, if◌then◌else◌, List, [], ◌∷◌, ◌++◌, map, Option, Some, None}
 use Rattle.std.specs.Int.{w32, int_bit_xor}
 use Rattle.std.specs.Ordering.{int_eq}
 use Rattle.jv_base.specs.declared.method.Kind.TheVariants.{Null}
@@ -8,6 +8,8 @@ use Rattle.jv_base.specs.declared.value.Value.TheVariants.{Int, Ref}
 use Rattle.cf_class.specs.declared.instr.ThinInstr.{ThinInstr}
 use Rattle.cf_class.specs.declared.instr.ThinInstr.TheVariants.{AconstNull, Iconst, Iload, Istore, Ixor, Ifeq, Ifne, IfIcmpeq, IfIcmpne, Goto, Ireturn, Return, Athrow}
 use Rattle.cf_class.specs.Instr.{instr_at}
+use Rattle.jb_run.specs.Locals.{local_at, with_local}
+use Rattle.jb_run.specs.Stack.{top, below}
 use Rattle.jb_run.specs.declared.machine.State.{State}
 use Rattle.jb_run.specs.declared.machine.Outcome.{Outcome}
 use Rattle.jb_run.specs.declared.machine.Outcome.TheVariants.{Next, Raised, Ended, Stuck}
@@ -16,30 +18,6 @@ use Rattle.jb_run.specs.declared.machine.Outcome.TheVariants.{Next, Raised, Ende
 abbrev pub int_inside : Option Value → Option ℤ
 int_inside (Some (Int n)) = Some n
 int_inside value = None
-
--- the value on top of an operand stack, which is the last (2.6.2)
-abbrev pub top : List Value → Option Value
-top stack = slice_get stack (length stack - 1)
-
--- what is below the top of an operand stack
-abbrev pub below : List Value → List Value
-below stack = take (length stack - 1) stack
-
--- what a local holds, which is nothing past the end of the list (2.6.1)
-abbrev pub held : Option (Option Value) → Option Value
-held None = None
-held (Some local) = local
-
-abbrev pub local_at : List (Option Value) → ℕ → Option Value
-local_at locals index = held (slice_get locals index)
-
--- the locals with one more at the end that hold nothing, as far as there is one at an index
-abbrev pub with_room : List (Option Value) → ℕ → List (Option Value)
-with_room locals index = locals ++ replicate (index + 1 - length locals) None
-
--- the locals where one of them is written
-abbrev pub with_local : List (Option Value) → ℕ → Value → List (Option Value)
-with_local locals index value = slice_set (with_room locals index) index (Some value)
 
 -- goes on with an int, and is stuck where there is none
 abbrev pub with_int : Option ℤ → (ℤ → Outcome) → Outcome

@@ -1,222 +1,160 @@
-// All runs of a thin method as one formula: a frame under a guard at each pc, in the order of the pcs.
-ghost use Rattle.std.specs.Prelude.{◌≤◌, length};
+// The instructions of thin code over frames of bits: each takes the frame that waits at its pc, and puts frames where the
+// run may go on.
+ghost use Rattle.std.specs.Prelude.{◌≡◌, [], ◌∷◌, IfOk, OnOk};
+ghost use Rattle.cf_class.specs.declared.instr.ThinInstr.TheVariants as instrs;
+ghost use Rattle.cf_class.specs.declared.shape.Operand.TheVariants as kinds;
+ghost use Rattle.jb_run.specs.Encoder as specs;
+ghost use Rattle.jb_run.specs.Machine as machine;
 
 use crate::formula::Formula;
 use crate::frame::{Frame, Operand, merge};
 use crate::gates::{Bit, and};
-use crate::word::{Word, are_equal, is_zero, known, unknown, xor_words};
-use cf_class::{ThinInstr, thin_instr_at};
-use jv_base::{Kind, Mem};
+use crate::word::{are_equal, is_zero, known, xor_words};
+use cf_class::ThinInstr;
+use jv_base::Mem;
 use std::alloc::Global;
 
-/// Where null is thrown, and the bit that is true exactly for the runs that throw it there.
-#[derive(Clone, Copy, Debug, PartialEq, Eq)]
-pub struct Raised {
-    pub pc: u16,
-    pub bit: Bit,
-}
-
-/// The formula of a method: an assignment that satisfies it shows the ints of an input, and the run of that input.
-#[derive(Debug, Drop)]
-pub struct Encoding {
+/// The formula so far, the frame that waits at each pc, and the bit of each pc that is true where null is thrown there.
+#[derive(Drop)]
+pub struct Encoder {
+    pub alloc: Global,
     pub formula: Formula,
-    pub inputs: Vec<Word>,
-    pub raised: Vec<Raised>,
+    pub pending: Vec<Option<Frame>>,
+    pub raised: Vec<Bit>,
 }
 
-impl Encoding {
-    /// The bit of a goal at a pc. No object is thrown in thin code, so no assertion fails there.
-    pub fn goal(&self, pc: u16, kind: Kind) -> Bit {
-        if kind == Kind::Null {
-            for raised in &self.raised {
-                if raised.pc == pc {
-                    return raised.bit;
-                }
-            }
-        }
-        Bit::Known(false)
+// A frame that meets the one that waits, if any.
+fn meet(alloc: Global, formula: &mut Formula, frame: Frame, earlier: Option<Frame>) -> Mem<Frame>
+    ensures { IfOk result (λ met. specs.Meets formula.old formula.new frame earlier met) }
+{
+    match earlier {
+        None => Ok(frame),
+        Some(earlier) => merge(alloc, formula, &frame, &earlier),
     }
 }
 
-#[derive(Drop)]
-struct Encoder {
-    alloc: Global,
-    formula: Formula,
-    pending: Vec<Option<Frame>>,
-    raised: Vec<Raised>,
-}
-
 impl Encoder {
-    // A way comes to a pc with this frame.
-    fn arrive(&mut self, pc: u16, frame: Frame) -> Mem<()> {
+    /// A way comes to a pc with this frame.
+    pub fn arrive(&mut self, pc: u16, frame: Frame) -> Mem<()>
+        ensures { OnOk result (specs.Arrives self.old self.new pc frame) }
+    {
         let at = usize::from(pc);
         if at >= self.pending.len() {
             return Ok(());
         }
-        let met = match self.pending[at].take() {
-            None => frame,
-            Some(earlier) => merge(self.alloc, &mut self.formula, &frame, &earlier)?,
-        };
+        let earlier = self.pending[at].take();
+        let met = meet(self.alloc, &mut self.formula, frame, earlier)?;
         self.pending[at] = Some(met);
         Ok(())
     }
 
-    // A conditional jump: to the target where the condition is true, else to the next instruction.
-    fn branch(&mut self, frame: &Frame, condition: Bit, target: u16, next: u16) -> Mem<()> {
+    // A conditional jump: to the first pc where the condition is true, else to the second.
+    fn branch(&mut self, frame: Frame, condition: Bit, true_pc: u16, false_pc: u16) -> Mem<()>
+        ensures { OnOk result (specs.Branches self.old self.new frame condition true_pc false_pc) }
+    {
         let taken = and(self.alloc, &mut self.formula, frame.guard, condition)?;
         let passed = and(self.alloc, &mut self.formula, frame.guard, condition.not())?;
-        self.arrive(target, frame.copy_under(self.alloc, taken)?)?;
-        self.arrive(next, frame.copy_under(self.alloc, passed)?)
+        self.arrive(true_pc, frame.copy_under(self.alloc, taken)?)?;
+        self.arrive(false_pc, frame.under(passed))
     }
 
-    fn branch_on_zero(
-        &mut self,
-        mut frame: Frame,
-        on_zero: bool,
-        target: u16,
-        next: u16,
-    ) -> Mem<()> {
-        let Some(word) = frame.pop_int() else {
+    // An int is popped: to the first pc where it is 0, else to the second.
+    fn branch_on_zero(&mut self, frame: Frame, zero_pc: u16, other_pc: u16) -> Mem<()>
+        ensures { OnOk result (specs.BranchesBy self.old self.new frame (kinds.Int ∷ []) (machine.branch_on_zero zero_pc other_pc) zero_pc other_pc) }
+    {
+        let (Some(word), rest) = frame.pop_int() else {
             return Ok(());
         };
         let zero = is_zero(self.alloc, &mut self.formula, &word)?;
-        let condition = if on_zero { zero } else { zero.not() };
-        self.branch(&frame, condition, target, next)
+        self.branch(rest, zero, zero_pc, other_pc)
     }
 
-    fn branch_on_equal(
-        &mut self,
-        mut frame: Frame,
-        on_equal: bool,
-        target: u16,
-        next: u16,
-    ) -> Mem<()> {
-        let (Some(b), Some(a)) = (frame.pop_int(), frame.pop_int()) else {
+    // Two ints are popped: to the first pc where they are equal, else to the second.
+    fn branch_on_equal(&mut self, frame: Frame, equal_pc: u16, other_pc: u16) -> Mem<()>
+        ensures { OnOk result (specs.BranchesBy self.old self.new frame (kinds.Int ∷ kinds.Int ∷ []) (machine.branch_on_equal equal_pc other_pc) equal_pc other_pc) }
+    {
+        let (Some(b), rest) = frame.pop_int() else {
+            return Ok(());
+        };
+        let (Some(a), rest) = rest.pop_int() else {
             return Ok(());
         };
         let equal = are_equal(self.alloc, &mut self.formula, &a, &b)?;
-        let condition = if on_equal { equal } else { equal.not() };
-        self.branch(&frame, condition, target, next)
+        self.branch(rest, equal, equal_pc, other_pc)
     }
 
-    fn push(&mut self, mut frame: Frame, operand: Operand, next: u16) -> Mem<()> {
-        frame.stack.push(operand)?;
-        self.arrive(next, frame)
+    // The null reference is pushed.
+    fn push_null(&mut self, frame: Frame, pc: u16, next: u16) -> Mem<()>
+        ensures { OnOk result (specs.Executes self.old self.new pc frame instrs.AconstNull next) }
+    {
+        self.arrive(next, frame.with_operand(Operand::Null)?)
     }
 
-    fn load(&mut self, frame: Frame, index: u8, next: u16) -> Mem<()> {
-        match frame.local(usize::from(index)) {
-            Some(word) => self.push(frame, Operand::Int(word), next),
-            None => Ok(()),
-        }
+    // An int is pushed that is known.
+    fn push_int(&mut self, frame: Frame, pc: u16, value: i32, next: u16) -> Mem<()>
+        ensures { OnOk result (specs.Executes self.old self.new pc frame (instrs.Iconst value) next) }
+    {
+        self.arrive(next, frame.with_operand(Operand::Int(known(value)))?)
     }
 
-    fn store(&mut self, mut frame: Frame, index: u8, next: u16) -> Mem<()> {
-        let Some(word) = frame.pop_int() else {
+    fn load(&mut self, frame: Frame, pc: u16, index: u8, next: u16) -> Mem<()>
+        ensures { OnOk result (specs.Executes self.old self.new pc frame (instrs.Iload index) next) }
+    {
+        let Some(word) = frame.local(index) else {
             return Ok(());
         };
-        frame.set_local(usize::from(index), word)?;
-        self.arrive(next, frame)
+        self.arrive(next, frame.with_operand(Operand::Int(word))?)
     }
 
-    fn exclusive_or(&mut self, mut frame: Frame, next: u16) -> Mem<()> {
-        let (Some(b), Some(a)) = (frame.pop_int(), frame.pop_int()) else {
+    fn store(&mut self, frame: Frame, pc: u16, index: u8, next: u16) -> Mem<()>
+        ensures { OnOk result (specs.Executes self.old self.new pc frame (instrs.Istore index) next) }
+    {
+        let (Some(word), rest) = frame.pop_int() else {
+            return Ok(());
+        };
+        self.arrive(next, rest.with_local(index, word)?)
+    }
+
+    fn exclusive_or(&mut self, frame: Frame, pc: u16, next: u16) -> Mem<()>
+        ensures { OnOk result (specs.Executes self.old self.new pc frame instrs.Ixor next) }
+    {
+        let (Some(b), rest) = frame.pop_int() else {
+            return Ok(());
+        };
+        let (Some(a), rest) = rest.pop_int() else {
             return Ok(());
         };
         let word = xor_words(self.alloc, &mut self.formula, &a, &b)?;
-        self.push(frame, Operand::Int(word), next)
+        self.arrive(next, rest.with_operand(Operand::Int(word))?)
     }
 
-    fn throw(&mut self, mut frame: Frame, pc: u16) -> Mem<()> {
-        if let Some(Operand::Null) = frame.stack.pop() {
-            self.raised.push(Raised {
-                pc,
-                bit: frame.guard,
-            })?;
+    // By the shape rules the reference on top is null.
+    fn throw(&mut self, frame: Frame, pc: u16, next: u16) -> Mem<()>
+        ensures { OnOk result (specs.Executes self.old self.new pc frame instrs.Athrow next) }
+    {
+        if usize::from(pc) < self.raised.len() {
+            self.raised[usize::from(pc)] = frame.guard;
         }
         Ok(())
     }
 
-    // One instruction, from the frame before it to the frames after it.
-    fn execute(&mut self, frame: Frame, pc: u16, instr: ThinInstr, next: u16) -> Mem<()> {
+    /// One instruction, from the frame before it to the frames after it.
+    pub fn execute(&mut self, frame: Frame, pc: u16, instr: ThinInstr, next: u16) -> Mem<()>
+        ensures { OnOk result (specs.Executes self.old self.new pc frame instr next) }
+    {
         match instr {
-            ThinInstr::AconstNull => self.push(frame, Operand::Null, next),
-            ThinInstr::Iconst(value) => self.push(frame, Operand::Int(known(value)), next),
-            ThinInstr::Iload(index) => self.load(frame, index, next),
-            ThinInstr::Istore(index) => self.store(frame, index, next),
-            ThinInstr::Ixor => self.exclusive_or(frame, next),
-            ThinInstr::Ifeq(target) => self.branch_on_zero(frame, true, target, next),
-            ThinInstr::Ifne(target) => self.branch_on_zero(frame, false, target, next),
-            ThinInstr::IfIcmpeq(target) => self.branch_on_equal(frame, true, target, next),
-            ThinInstr::IfIcmpne(target) => self.branch_on_equal(frame, false, target, next),
+            ThinInstr::AconstNull => self.push_null(frame, pc, next),
+            ThinInstr::Iconst(value) => self.push_int(frame, pc, value, next),
+            ThinInstr::Iload(index) => self.load(frame, pc, index, next),
+            ThinInstr::Istore(index) => self.store(frame, pc, index, next),
+            ThinInstr::Ixor => self.exclusive_or(frame, pc, next),
+            ThinInstr::Ifeq(target) => self.branch_on_zero(frame, target, next),
+            ThinInstr::Ifne(target) => self.branch_on_zero(frame, next, target),
+            ThinInstr::IfIcmpeq(target) => self.branch_on_equal(frame, target, next),
+            ThinInstr::IfIcmpne(target) => self.branch_on_equal(frame, next, target),
             ThinInstr::Goto(target) => self.arrive(target, frame),
-            ThinInstr::Athrow => self.throw(frame, pc),
+            ThinInstr::Athrow => self.throw(frame, pc, next),
             ThinInstr::Ireturn | ThinInstr::Return => Ok(()),
         }
     }
-}
-
-fn start(alloc: Global, formula: &mut Formula, params: usize) -> Mem<Vec<Word>> {
-    let mut inputs = Vec::new(alloc);
-    for _ in 0..params {
-        inputs.push(unknown(formula)?)?;
-    }
-    Ok(inputs)
-}
-
-fn first_frame(alloc: Global, inputs: &[Word]) -> Mem<Frame> {
-    let mut locals = Vec::new(alloc);
-    for word in inputs {
-        locals.push(Some(*word))?;
-    }
-    Ok(Frame {
-        guard: Bit::Known(true),
-        locals,
-        stack: Vec::new(alloc),
-    })
-}
-
-fn nothing_pending(alloc: Global, length: usize) -> Mem<Vec<Option<Frame>>> {
-    let mut pending = Vec::new(alloc);
-    for _ in 0..length {
-        pending.push(None)?;
-    }
-    Ok(pending)
-}
-
-/// The encoding of thin code whose first locals are `params` ints.
-pub fn encode(alloc: Global, code: &[u8], params: usize) -> Mem<Encoding>
-    requires { length code.now ≤ 65535 }
-{
-    let mut formula = Formula::new(alloc);
-    let inputs = start(alloc, &mut formula, params)?;
-    let mut encoder = Encoder {
-        alloc,
-        formula,
-        pending: nothing_pending(alloc, code.len())?,
-        raised: Vec::new(alloc),
-    };
-    let frame = first_frame(alloc, inputs.as_slice())?;
-    encoder.arrive(0, frame)?;
-    for pc in 0..65535u16 {
-        if usize::from(pc) >= encoder.pending.len() {
-            break;
-        }
-        if let Some(frame) = encoder.pending[usize::from(pc)].take() {
-            if let Some((instr, next)) = thin_instr_at(code, pc) {
-                encoder.execute(frame, pc, instr, next)?;
-            }
-        }
-    }
-    let Encoder {
-        alloc: _,
-        formula,
-        pending: _,
-        raised,
-    } = encoder;
-    Ok(Encoding {
-        formula,
-        inputs,
-        raised,
-    })
 }

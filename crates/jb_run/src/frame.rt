@@ -1,12 +1,16 @@
 // The frame of a thin method under a guard: what its locals and its operand stack hold, as bits of the encoding.
-ghost use Rattle.std.specs.Prelude.{◌≡◌, ◌-◌, take, vec_len, slice_get, IfOk, OnOk, Some};
-ghost use Rattle.jb_run.specs.Bits.{local_at, int_inside};
+ghost use Rattle.std.specs.Prelude.{◌≡◌, ◌++◌, ◌∷◌, [], IfOk};
+ghost use Rattle.jb_run.specs.Bits.{int_inside};
+ghost use Rattle.jb_run.specs.Encoder as encoder;
+ghost use Rattle.jb_run.specs.Locals as locals;
+ghost use Rattle.jb_run.specs.Stack as operands;
 
 use crate::formula::Formula;
 use crate::gates::{Bit, or};
+use crate::locals::{local_at, with_local};
 use crate::word::{Word, mux_words};
-use jv_base::Mem;
-use std::alloc::Global;
+use jv_base::{List, Mem};
+use std::alloc::{AllocError, Global};
 
 /// A value on the operand stack: an int, or the null reference.
 #[derive(Clone, Copy, Debug, PartialEq, Eq)]
@@ -20,118 +24,208 @@ pub enum Operand {
 #[derive(Debug, Drop)]
 pub struct Frame {
     pub guard: Bit,
-    pub locals: Vec<Option<Word>>,
-    pub stack: Vec<Operand>,
+    pub locals: List<Option<Word>>,
+    pub stack: List<Operand>,
 }
 
 impl Frame {
     /// The same values under another guard.
+    pub fn under(self, guard: Bit) -> Frame
+        ensures { result ≡ record self { guard = guard } }
+    {
+        let Frame {
+            guard: _,
+            locals,
+            stack,
+        } = self;
+        Frame {
+            guard,
+            locals,
+            stack,
+        }
+    }
+
+    /// A copy under another guard.
     pub fn copy_under(&self, alloc: Global, guard: Bit) -> Mem<Frame>
-        ensures guard { IfOk result (λ frame. frame.guard ≡ guard) }
-        ensures locals { IfOk result (λ frame. frame.locals.items ≡ self.now.locals.items) }
-        ensures stack { IfOk result (λ frame. frame.stack.items ≡ self.now.stack.items) }
+        ensures { IfOk result (λ frame. frame ≡ record self.now { guard = guard }) }
     {
         Ok(Frame {
             guard,
-            locals: Vec::from_slice(alloc, self.locals.as_slice())?,
-            stack: Vec::from_slice(alloc, self.stack.as_slice())?,
+            locals: List::from_vec(self.locals.as_slice().to_vec(alloc)?),
+            stack: List::from_vec(self.stack.as_slice().to_vec(alloc)?),
         })
     }
 
     /// The int in a local, where it holds one.
-    pub fn local(&self, index: usize) -> Option<Word>
-        ensures { result ≡ local_at self.now.locals.items index }
+    pub fn local(&self, index: u8) -> Option<Word>
+        ensures { result ≡ locals.local_at self.now.locals index }
     {
-        match self.locals.get(index) {
-            Some(local) => *local,
-            None => None,
-        }
+        local_at(self.locals.as_slice(), usize::from(index))
     }
 
-    /// Stores an int in a local.
-    pub fn set_local(&mut self, index: usize, word: Word) -> Mem<()>
-        ensures stored { OnOk result (local_at self.new.locals.items index ≡ Some word) }
-        ensures stack { self.new.stack.items ≡ self.old.stack.items }
-        ensures guard { self.new.guard ≡ self.old.guard }
+    /// The frame with an int in a local.
+    pub fn with_local(self, index: u8, word: Word) -> Mem<Frame>
+        ensures { IfOk result (λ frame. frame ≡ record self { locals = locals.with_local self.locals index word }) }
     {
-        while self.locals.len() <= index {
-            self.locals.push(None)?;
-        }
-        self.locals[index] = Some(word);
-        Ok(())
+        let Frame {
+            guard,
+            locals,
+            stack,
+        } = self;
+        Ok(Frame {
+            guard,
+            locals: with_local(locals, usize::from(index), word)?,
+            stack,
+        })
     }
 
-    /// Takes the int on top of the stack. None where there is none.
-    pub fn pop_int(&mut self) -> Option<Word>
-        ensures int { result ≡ int_inside (slice_get self.old.stack.items (vec_len self.old.stack - 1)) }
-        ensures rest { self.new.stack.items ≡ take (vec_len self.old.stack - 1) self.old.stack.items }
-        ensures locals { self.new.locals.items ≡ self.old.locals.items }
-        ensures guard { self.new.guard ≡ self.old.guard }
+    /// The frame with one more operand on top.
+    pub fn with_operand(self, operand: Operand) -> Mem<Frame>
+        ensures { IfOk result (λ frame. frame ≡ record self { stack = self.stack ++ operand ∷ [] }) }
     {
-        match self.stack.pop() {
-            Some(Operand::Int(word)) => Some(word),
-            _ => None,
+        let Frame {
+            guard,
+            locals,
+            mut stack,
+        } = self;
+        stack.push(operand).map_err(|_| AllocError)?;
+        Ok(Frame {
+            guard,
+            locals,
+            stack,
+        })
+    }
+
+    /// The operand on top, where there is one, and the frame without it.
+    pub fn pop(self) -> (Option<Operand>, Frame)
+        ensures top { result.0 ≡ operands.top self.stack }
+        ensures rest { result.1 ≡ record self { stack = operands.below self.stack } }
+    {
+        let Frame {
+            guard,
+            locals,
+            stack,
+        } = self;
+        let mut stack = stack.into_vec();
+        let top = stack.pop();
+        let rest = Frame {
+            guard,
+            locals,
+            stack: List::from_vec(stack),
+        };
+        (top, rest)
+    }
+
+    /// The int on top, where there is one, and the frame without it.
+    pub fn pop_int(self) -> (Option<Word>, Frame)
+        ensures int { result.0 ≡ int_inside (operands.top self.stack) }
+        ensures rest { result.1 ≡ record self { stack = operands.below self.stack } }
+    {
+        let (top, rest) = self.pop();
+        (int_inside(top), rest)
+    }
+}
+
+fn int_inside(operand: Option<Operand>) -> Option<Word>
+    ensures { result ≡ int_inside operand }
+{
+    match operand {
+        Some(Operand::Int(word)) => Some(word),
+        _ => None,
+    }
+}
+
+// The int that shows the first where the choice is true, else the second. None where one of them is none.
+fn merge_local(
+    alloc: Global,
+    formula: &mut Formula,
+    choice: Bit,
+    first: Option<Word>,
+    second: Option<Word>,
+) -> Mem<Option<Word>>
+    ensures { IfOk result (λ met. encoder.MergeLocal formula.old formula.new choice first second met) }
+{
+    match (first, second) {
+        (Some(first), Some(second)) => {
+            Ok(Some(mux_words(alloc, formula, choice, &first, &second)?))
         }
+        _ => Ok(None),
     }
 }
 
 fn merge_locals(
     alloc: Global,
     formula: &mut Formula,
-    guard: Bit,
-    a: &[Option<Word>],
-    b: &[Option<Word>],
-) -> Mem<Vec<Option<Word>>> {
+    choice: Bit,
+    first: &[Option<Word>],
+    second: &[Option<Word>],
+) -> Mem<List<Option<Word>>>
+    ensures { IfOk result (λ met. encoder.MergeLocals formula.old formula.new choice first.now second.now met) }
+{
     let mut merged = Vec::new(alloc);
-    for (x, y) in a.iter().zip(b) {
-        let local = match (x, y) {
-            (Some(x), Some(y)) => Some(mux_words(alloc, formula, guard, x, y)?),
-            _ => None,
-        };
-        merged.push(local)?;
+    'pair: for (x, y) in first.iter().zip(second) {
+        merged.push(merge_local(alloc, formula, choice, *x, *y)?)?;
     }
-    Ok(merged)
+    Ok(List::from_vec(merged))
+}
+
+fn merge_operand(
+    alloc: Global,
+    formula: &mut Formula,
+    choice: Bit,
+    first: Operand,
+    second: Operand,
+) -> Mem<Operand>
+    ensures { IfOk result (λ met. encoder.MergeOperand formula.old formula.new choice first second met) }
+{
+    match (first, second) {
+        (Operand::Int(first), Operand::Int(second)) => Ok(Operand::Int(mux_words(
+            alloc, formula, choice, &first, &second,
+        )?)),
+        _ => Ok(first),
+    }
 }
 
 fn merge_stacks(
     alloc: Global,
     formula: &mut Formula,
-    guard: Bit,
-    a: &[Operand],
-    b: &[Operand],
-) -> Mem<Vec<Operand>> {
+    choice: Bit,
+    first: &[Operand],
+    second: &[Operand],
+) -> Mem<List<Operand>>
+    ensures { IfOk result (λ met. encoder.MergeStacks formula.old formula.new choice first.now second.now met) }
+{
     let mut merged = Vec::new(alloc);
-    for (x, y) in a.iter().zip(b) {
-        let operand = match (x, y) {
-            (Operand::Int(x), Operand::Int(y)) => {
-                Operand::Int(mux_words(alloc, formula, guard, x, y)?)
-            }
-            _ => *x,
-        };
-        merged.push(operand)?;
+    'pair: for (x, y) in first.iter().zip(second) {
+        merged.push(merge_operand(alloc, formula, choice, *x, *y)?)?;
     }
-    Ok(merged)
+    Ok(List::from_vec(merged))
 }
 
 /// The frame where two ways meet: it shows the first where the first guard is true, else the second. By the shape rules
 /// the stacks are alike, and a local that one of the two does not hold is not read.
-pub fn merge(alloc: Global, formula: &mut Formula, first: &Frame, second: &Frame) -> Mem<Frame> {
-    let guard = first.guard;
+pub fn merge(alloc: Global, formula: &mut Formula, first: &Frame, second: &Frame) -> Mem<Frame>
+    ensures { IfOk result (λ met. encoder.Merges formula.old formula.new first.now second.now met) }
+{
+    let choice = first.guard;
+    let guard = or(alloc, formula, choice, second.guard)?;
+    let locals = merge_locals(
+        alloc,
+        formula,
+        choice,
+        first.locals.as_slice(),
+        second.locals.as_slice(),
+    )?;
+    let stack = merge_stacks(
+        alloc,
+        formula,
+        choice,
+        first.stack.as_slice(),
+        second.stack.as_slice(),
+    )?;
     Ok(Frame {
-        guard: or(alloc, formula, guard, second.guard)?,
-        locals: merge_locals(
-            alloc,
-            formula,
-            guard,
-            first.locals.as_slice(),
-            second.locals.as_slice(),
-        )?,
-        stack: merge_stacks(
-            alloc,
-            formula,
-            guard,
-            first.stack.as_slice(),
-            second.stack.as_slice(),
-        )?,
+        guard,
+        locals,
+        stack,
     })
 }

@@ -1,8 +1,10 @@
 // The machine of thin code: a plain interpreter, which runs a method on the ints of an input.
 ghost use Rattle.std.specs.Prelude.{◌≡◌, ℕ, ◌↔◌, ◌≤◌, length, IfOk};
 ghost use Rattle.jb_run.specs.Machine as machine;
+ghost use Rattle.jb_run.specs.Stack as operands;
 ghost use Rattle.jb_run.specs.Violates.{RunViolates};
 
+use crate::locals::{local_at, with_local};
 use cf_class::{ThinInstr, thin_instr_at};
 use jv_base::{Kind, List, Mem, Value};
 use std::alloc::{AllocError, Global};
@@ -31,8 +33,8 @@ pub enum Outcome {
 
 // The value on top of the stack, and what is below it.
 fn pop(stack: List<Value>) -> (Option<Value>, List<Value>)
-    ensures top { result.0 ≡ machine.top stack }
-    ensures below { result.1 ≡ machine.below stack }
+    ensures top { result.0 ≡ operands.top stack }
+    ensures below { result.1 ≡ operands.below stack }
 {
     let mut values = stack.into_vec();
     let top = values.pop();
@@ -41,8 +43,8 @@ fn pop(stack: List<Value>) -> (Option<Value>, List<Value>)
 
 // The int on top of the stack, where there is one, and what is below it.
 fn pop_int(stack: List<Value>) -> (Option<i32>, List<Value>)
-    ensures int { result.0 ≡ machine.int_inside (machine.top stack) }
-    ensures below { result.1 ≡ machine.below stack }
+    ensures int { result.0 ≡ machine.int_inside (operands.top stack) }
+    ensures below { result.1 ≡ operands.below stack }
 {
     let (top, below) = pop(stack);
     (int_inside(top), below)
@@ -55,29 +57,6 @@ fn int_inside(value: Option<Value>) -> Option<i32>
         Some(Value::Int(n)) => Some(n),
         _ => None,
     }
-}
-
-// The value in a local, where it holds one.
-fn local_at(locals: &List<Option<Value>>, index: u8) -> Option<Value>
-    ensures { result ≡ machine.local_at locals.now index }
-{
-    match locals.as_slice().get(usize::from(index)) {
-        Some(local) => *local,
-        None => None,
-    }
-}
-
-// The locals where one of them is written.
-fn with_local(locals: List<Option<Value>>, index: u8, value: Value) -> Mem<List<Option<Value>>>
-    ensures { IfOk result (λ new. new ≡ machine.with_local locals index value) }
-{
-    let mut locals = locals.into_vec();
-    let index = usize::from(index);
-    'room: while locals.len() <= index {
-        locals.push(None)?;
-    }
-    locals[index] = Some(value);
-    Ok(List::from_vec(locals))
 }
 
 // A value is pushed: the constants.
@@ -100,7 +79,7 @@ fn push(state: State, value: Value, next: u16) -> Mem<Outcome>
 fn load(state: State, index: u8, next: u16) -> Mem<Outcome>
     ensures { IfOk result (λ o. o ≡ machine.load index next state) }
 {
-    match int_inside(local_at(&state.locals, index)) {
+    match int_inside(local_at(state.locals.as_slice(), usize::from(index))) {
         Some(n) => push(state, Value::Int(n), next),
         None => Ok(Outcome::Stuck),
     }
@@ -117,7 +96,7 @@ fn store(state: State, index: u8, next: u16) -> Mem<Outcome>
     match pop_int(stack) {
         (Some(n), rest) => Ok(Outcome::Next(State {
             pc: next,
-            locals: with_local(locals, index, Value::Int(n))?,
+            locals: with_local(locals, usize::from(index), Value::Int(n))?,
             stack: rest,
         })),
         (None, _) => Ok(Outcome::Stuck),
@@ -126,9 +105,9 @@ fn store(state: State, index: u8, next: u16) -> Mem<Outcome>
 
 // The two ints on top of the stack, where they are ints, and what is below them. The second was on top.
 fn pop_ints(stack: List<Value>) -> (Option<i32>, Option<i32>, List<Value>)
-    ensures first { result.0 ≡ machine.int_inside (machine.top (machine.below stack)) }
-    ensures second { result.1 ≡ machine.int_inside (machine.top stack) }
-    ensures below { result.2 ≡ machine.below (machine.below stack) }
+    ensures first { result.0 ≡ machine.int_inside (operands.top (operands.below stack)) }
+    ensures second { result.1 ≡ machine.int_inside (operands.top stack) }
+    ensures below { result.2 ≡ operands.below (operands.below stack) }
 {
     let (b, rest) = pop_int(stack);
     let (a, rest) = pop_int(rest);
@@ -204,7 +183,7 @@ fn jumps_to(state: State, pc: u16) -> Outcome
 }
 
 fn throw(state: State) -> Outcome
-    ensures { result ≡ machine.throw (machine.top state.stack) }
+    ensures { result ≡ machine.throw (operands.top state.stack) }
 {
     let State {
         pc: _,

@@ -2,10 +2,14 @@
 #![tactic(auto)]
 
 mod encoder;
+mod encoding;
 mod formula;
 mod frame;
 mod gates;
+mod locals;
 mod machine;
+#[cfg(test)]
+mod random_runs;
 mod report;
 mod sites;
 mod solver;

@@ -1,5 +1,6 @@
 // The top call: from the words and the folder to the text in the sink.
-ghost use Rattle.std.specs.Prelude.{◌≡◌, ◌≤◌, ◌++◌, [], ◌∷◌, codes, string_bytes, IfOk, IfSome, IsSome, MatchOption, IfNone, ◌⊎◌, None};
+ghost use Rattle.std.specs.Prelude.{◌≡◌, ◌≤◌, ◌++◌, ℕ, Bool, [], ◌∷◌, codes, string_bytes, IfOk, IfSome, IsSome, MatchOption, IfNone, ◌⊎◌, None};
+ghost use Rattle.cf_class.specs.Thin.{int_descriptor};
 ghost use Rattle.io_edges.specs.Faults.{Rose};
 ghost use Rattle.io_edges.specs.Sink.{Adds};
 ghost use Rattle.jb_run.specs.Command.{texts, CommandOf};
@@ -45,7 +46,9 @@ fn class_path(alloc: Global, dir: &str, class: &Name) -> Mem<String>
 }
 
 // How many parameters a descriptor has that is `(`, an `I` for each, `)` and one letter.
-fn int_params(desc: &Name) -> usize {
+fn int_params(desc: &Name) -> usize
+    ensures { (params : ℕ) (gives_int : Bool) → desc.now ≡ int_descriptor params gives_int → result ≡ params }
+{
     desc.length().saturating_sub(3)
 }
 

@@ -1,10 +1,17 @@
 // A verdict for each site of a thin method.
-ghost use Rattle.std.specs.Prelude.{◌≡◌, ◌≤◌, [], ◌∷◌, ◌++◌, length, map, All, IfOk, OnOk};
-ghost use Rattle.cf_class.specs.ThinCode.{HasInstrs};
+ghost use Rattle.std.specs.Prelude.{◌≡◌, ◌≤◌, ℕ, ℤ, Bool, List, [], ◌∷◌, ◌++◌, length, map, All, IfOk, OnOk};
+ghost use Rattle.cf_class.specs.Thin.{int_descriptor};
+ghost use Rattle.cf_class.specs.ThinCode.{HasInstrs, ThinCode};
+ghost use Rattle.jb_run.specs.Verdicts.{IsVerdictBy, AreVerdictsBy};
+ghost use Rattle.jb_run.specs.Justified.{AreJustified};
 ghost use Rattle.jb_run.specs.OutputText.{IsIntTree, IsIntVerdict, AreIntLines};
+ghost use Rattle.jb_run.specs.Satisfies.{bit_value};
+ghost use Rattle.jb_run.specs.Shown.{ShowsInt, ShowInts};
 ghost use Rattle.jb_run.specs.Sites.{IsSites};
+ghost use Rattle.jb_run.specs.Solved.{value_at};
+ghost use Rattle.jb_run.specs.Violates.{HasInts};
 
-use crate::encoder::{Encoding, encode};
+use crate::encoding::{Encoding, encode};
 use crate::gates::Bit;
 use crate::report::{Line, Verdict};
 use crate::sites::sites;
@@ -13,29 +20,39 @@ use crate::word::Word;
 use jv_base::{Goal, Input, List, Mem, MethodId, Tree};
 use std::alloc::{AllocError, Global};
 
-fn bit_value(assignment: &[bool], bit: Bit) -> bool {
+// The value of a bit. A variable past the list is false.
+fn bit_value(assignment: &[bool], bit: Bit) -> bool
+    ensures { result ≡ bit_value (value_at assignment.now) bit }
+{
     match bit {
         Bit::Known(value) => value,
         Bit::Of(lit) => match assignment.get(lit.variable) {
             Some(value) => *value != lit.negated,
-            None => false,
+            None => lit.negated,
         },
     }
 }
 
-fn word_value(assignment: &[bool], word: &Word) -> i32 {
-    let mut value = 0u32;
-    for i in (0..32).rev() {
-        value = value.wrapping_mul(2) | u32::from(bit_value(assignment, word.bits[i]));
+// The int that the bits show.
+fn word_value(assignment: &[bool], word: &Word) -> i32
+    ensures { ShowsInt (value_at assignment.now) word.now result }
+{
+    let mut pattern = 0u32;
+    'bits: for i in 0..32 {
+        if bit_value(assignment, word.bits[i]) {
+            pattern |= 1 << i;
+        }
     }
-    value.cast_signed()
+    pattern.cast_signed()
 }
 
+// The ints that the words show, as an input.
 fn input_of(alloc: Global, inputs: &[Word], assignment: &[bool]) -> Mem<Input>
-    ensures { IfOk result (λ input. All IsIntTree input.args) }
+    ensures ints { IfOk result (λ input. All IsIntTree input.args) }
+    ensures shows { IfOk result (λ input. (ints : List ℤ) × HasInts input ints × ShowInts (value_at assignment.now) inputs.now ints) }
 {
     let mut args = Vec::new(alloc);
-    for word in inputs {
+    'words: for word in inputs {
         args.push(Tree::Int(word_value(assignment, word)))?;
     }
     Ok(Input {
@@ -43,26 +60,28 @@ fn input_of(alloc: Global, inputs: &[Word], assignment: &[bool]) -> Mem<Input>
     })
 }
 
+// The verdict for a goal, from the solver's answer.
 fn decide(alloc: Global, encoding: &Encoding, goal: &Goal) -> Mem<Verdict>
-    ensures { IfOk result IsIntVerdict }
+    ensures ints { IfOk result IsIntVerdict }
+    ensures justified { IfOk result (λ verdict. IsVerdictBy encoding.now goal.now verdict) }
 {
     let bit = encoding.goal(goal.site.pc, goal.kind);
     match solve(alloc, &encoding.formula, bit)? {
         Answer::Unsat => Ok(Verdict::Success),
-        Answer::Sat(assignment) => Ok(Verdict::Failure(input_of(
-            alloc,
-            encoding.inputs.as_slice(),
-            assignment.as_slice(),
-        )?)),
+        Answer::Sat(assignment) => {
+            let input = input_of(alloc, encoding.inputs.as_slice(), assignment.as_slice())?;
+            Ok(Verdict::Failure(input))
+        }
     }
 }
 
-/// A line for each site of the method, in order.
+/// A line for each site of the method, in order, with a verdict that is true of the method.
 pub fn verdicts(alloc: Global, method: &MethodId, code: &[u8], params: usize) -> Mem<List<Line>>
     requires short { length code.now ≤ 65535 }
     requires instrs { HasInstrs code.now }
     ensures sites { IfOk result (λ lines. IsSites method.now code.now (map (λ line. line.goal) lines)) }
     ensures ints { IfOk result AreIntLines }
+    ensures justified { IfOk result (λ lines. (gives_int : Bool) (max_stack max_locals : ℕ) → method.now.desc ≡ int_descriptor params gives_int → ThinCode code.now params gives_int max_stack max_locals → AreJustified code.now method.now lines) }
 {
     let encoding = encode(alloc, code, params)?;
     let goals = sites(alloc, method, code)?;
@@ -79,11 +98,12 @@ fn add_line(lines: &mut List<Line>, line: Line) -> Mem<()>
 fn lines_for(alloc: Global, encoding: &Encoding, goals: List<Goal>) -> Mem<List<Line>>
     ensures goals { IfOk result (λ lines. map (λ line. line.goal) lines ≡ goals) }
     ensures ints { IfOk result AreIntLines }
+    ensures justified { IfOk result (AreVerdictsBy encoding.now) }
 {
     let mut rest = goals.into_vec();
     rest.reverse();
     let mut lines = List::new(alloc);
-    while let Some(goal) = rest.pop() {
+    'goals: while let Some(goal) = rest.pop() {
         let verdict = decide(alloc, encoding, &goal)?;
         add_line(&mut lines, Line { goal, verdict })?;
     }

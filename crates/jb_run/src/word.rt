@@ -1,8 +1,11 @@
 // Ints of 32 bits as bits of the encoding, the lowest first.
-ghost use Rattle.std.specs.Prelude.{◌<◌, ℕ, Bool, IfOk};
+ghost use Rattle.std.specs.Prelude.{◌≡◌, ◌<◌, ℕ, ℤ, pos, Bool, true, false, IfOk};
+ghost use Rattle.std.specs.Int.{w32, int_bit_xor};
+ghost use Rattle.std.specs.Ordering.{int_eq};
 ghost use Rattle.jb_run.specs.Clauses.{clauses_of};
-ghost use Rattle.jb_run.specs.Satisfies.{IsBitBelow, AreClausesBelow};
-ghost use Rattle.jb_run.specs.Gate.{bit_at, Continues, IsWordNamed, AreWordsNamed, IsWordGate, IsTest, HasInt, IsFreshWord, HasNoBit, HaveSameBits, different, chosen};
+ghost use Rattle.jb_run.specs.Satisfies.{bit_value, Satisfies, IsBitBelow, AreClausesBelow};
+ghost use Rattle.jb_run.specs.Shown.{ShowsInt};
+ghost use Rattle.jb_run.specs.Gate.{bit_at, Continues, IsWordNamed, AreWordsNamed, IsWordGate, IsTest, IsFreshWord, HasNoBit, HaveSameBits, different, chosen};
 
 use crate::formula::Formula;
 use crate::gates::{Bit, and, fresh, mux, xor};
@@ -17,7 +20,7 @@ pub struct Word {
 
 /// The int that is known.
 pub fn known(value: i32) -> Word
-    ensures int { (a : ℕ → Bool) → HasInt a result value }
+    ensures int { (a : ℕ → Bool) → ShowsInt a result value }
     ensures below { (n k : ℕ) → k < 32 → IsBitBelow n (bit_at result k) }
 {
     let pattern = value.cast_unsigned();
@@ -43,6 +46,7 @@ pub fn unknown(formula: &mut Formula) -> Mem<Word>
 /// The exclusive or, bit by bit.
 pub fn xor_words(alloc: Global, formula: &mut Formula, a: &Word, b: &Word) -> Mem<Word>
     ensures gate { AreWordsNamed formula.old a.now b.now → IfOk result (λ word. IsWordGate formula.old formula.new word (λ k. different (bit_at a.now k) (bit_at b.now k))) }
+    ensures int { AreWordsNamed formula.old a.now b.now → IfOk result (λ word. (w : ℕ → Bool) (n m : ℤ) → Satisfies w formula.new → ShowsInt w a.now n → ShowsInt w b.now m → ShowsInt w word (int_bit_xor w32 n m)) }
     ensures keeps { Continues formula.old formula.new }
 {
     let mut bits = [Bit::Known(false); 32];
@@ -55,6 +59,8 @@ pub fn xor_words(alloc: Global, formula: &mut Formula, a: &Word, b: &Word) -> Me
 /// `a` where `choice` is true, else `b`.
 pub fn mux_words(alloc: Global, formula: &mut Formula, choice: Bit, a: &Word, b: &Word) -> Mem<Word>
     ensures gate { AreWordsNamed formula.old a.now b.now → IsBitBelow formula.old.variables choice → IfOk result (λ word. IsWordGate formula.old formula.new word (λ k. chosen choice (bit_at a.now k) (bit_at b.now k))) }
+    ensures first { AreWordsNamed formula.old a.now b.now → IsBitBelow formula.old.variables choice → IfOk result (λ word. (w : ℕ → Bool) (n : ℤ) → Satisfies w formula.new → bit_value w choice ≡ true → ShowsInt w a.now n → ShowsInt w word n) }
+    ensures second { AreWordsNamed formula.old a.now b.now → IsBitBelow formula.old.variables choice → IfOk result (λ word. (w : ℕ → Bool) (n : ℤ) → Satisfies w formula.new → bit_value w choice ≡ false → ShowsInt w b.now n → ShowsInt w word n) }
     ensures keeps { Continues formula.old formula.new }
 {
     let mut bits = [Bit::Known(false); 32];
@@ -67,6 +73,7 @@ pub fn mux_words(alloc: Global, formula: &mut Formula, choice: Bit, a: &Word, b:
 /// True exactly where the int is 0.
 pub fn is_zero(alloc: Global, formula: &mut Formula, a: &Word) -> Mem<Bit>
     ensures gate { IsWordNamed formula.old a.now → IfOk result (λ bit. IsTest formula.old formula.new bit (HasNoBit a.now)) }
+    ensures int { IsWordNamed formula.old a.now → IfOk result (λ bit. (w : ℕ → Bool) (n : ℤ) → Satisfies w formula.new → ShowsInt w a.now n → bit_value w bit ≡ int_eq n (pos 0)) }
     ensures keeps { Continues formula.old formula.new }
 {
     let mut zero = Bit::Known(true);
@@ -79,6 +86,7 @@ pub fn is_zero(alloc: Global, formula: &mut Formula, a: &Word) -> Mem<Bit>
 /// True exactly where the two ints are equal.
 pub fn are_equal(alloc: Global, formula: &mut Formula, a: &Word, b: &Word) -> Mem<Bit>
     ensures gate { AreWordsNamed formula.old a.now b.now → IfOk result (λ bit. IsTest formula.old formula.new bit (HaveSameBits a.now b.now)) }
+    ensures int { AreWordsNamed formula.old a.now b.now → IfOk result (λ bit. (w : ℕ → Bool) (n m : ℤ) → Satisfies w formula.new → ShowsInt w a.now n → ShowsInt w b.now m → bit_value w bit ≡ int_eq n m) }
     ensures keeps { Continues formula.old formula.new }
 {
     let difference = xor_words(alloc, formula, a, b)?;

@@ -1,5 +1,6 @@
 use Rattle.std.proofs.Common.{◌≡◌, arith}
 use Rattle.jb_run.proofs.WordSteps.{zero_more, zero_all}
+use Rattle.jb_run.proofs.WordValues.{zero_int}
 use Rattle.jb_run.proofs.word.is_zero.Goals as goal
 
 pub loop-index-preserved : goal.loop-index-preserved
@@ -11,3 +12,9 @@ pub returns-clause-gate : goal.returns-clause-gate
 returns-clause-gate c named =
     let all : c.loop-index.index ≡ 32 = omega arith in
     zero_all c.args.formula.now c.loop-index.formula c.args.a.now c.loop-index.zero c.loop-index.index c.loop-index.invariant all named
+
+pub returns-clause-int : goal.returns-clause-int
+returns-clause-int c named w n =
+    let all : c.loop-index.index ≡ 32 = omega arith in
+    zero_int c.args.formula.now c.loop-index.formula c.args.a.now c.loop-index.zero
+    (zero_all c.args.formula.now c.loop-index.formula c.args.a.now c.loop-index.zero c.loop-index.index c.loop-index.invariant all named) w n

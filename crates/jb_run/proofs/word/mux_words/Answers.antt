@@ -3,6 +3,7 @@ use Rattle.jb_run.specs.Satisfies.{IsBitBelow}
 use Rattle.jb_run.specs.Gate.{AreWordsNamed, chosen, bit_at}
 use Rattle.jb_run.proofs.Defined.{bit_below_more}
 use Rattle.jb_run.proofs.WordSteps.{bits_more, named_later}
+use Rattle.jb_run.proofs.WordValues.{chosen_first, chosen_second}
 use Rattle.jb_run.proofs.word.mux_words.Goals as goal
 
 pub loop-i-preserved : goal.loop-i-preserved
@@ -14,3 +15,11 @@ loop-i-preserved c =
     bits_more (AreWordsNamed old a b × IsBitBelow old.variables choice) old c.loop-i.formula c.mux.new.formula c.loop-i.bits c.loop-i.i c.in_ok-bits.field-0 (λ k. chosen choice (bit_at a k) (bit_at b k))
     c.loop-i.invariant (omega arith) c.mux.ensures.keeps
     (λ p so. c.in_ok-bits.ensures.gate (named_later old c.loop-i.formula a b c.loop-i.i p.0 so.extends (omega arith)) (bit_below_more old.variables c.loop-i.formula.variables choice so.extends.grows p.1))
+
+pub returns-clause-first : goal.returns-clause-first
+returns-clause-first c named below w n =
+    chosen_first c.args.formula.now c.loop-i.formula c.args.choice c.args.a.now c.args.b.now c.loop-i.bits c.loop-i.i c.loop-i.invariant (omega arith) named below w n
+
+pub returns-clause-second : goal.returns-clause-second
+returns-clause-second c named below w n =
+    chosen_second c.args.formula.now c.loop-i.formula c.args.choice c.args.a.now c.args.b.now c.loop-i.bits c.loop-i.i c.loop-i.invariant (omega arith) named below w n

@@ -1,0 +1,17 @@
+use Rattle.std.proofs.lemmas.Result.{IfOk-weaker}
+use Rattle.std.proofs.lemmas.List.Elements.{All-weaker}
+use Rattle.jb_run.specs.Verdicts.{IsEncodingOf, IsVerdictBy, AreVerdictsBy}
+use Rattle.jb_run.specs.Justified.{IsJustifiedLine}
+use Rattle.jb_run.specs.declared.report.Line.{Line}
+use Rattle.jb_run.proofs.verdicts.verdicts.Goals as goal
+
+pub returns-clause-justified : goal.returns-clause-justified
+returns-clause-justified c =
+    let encoding = c.in_ok-encoding.encoding in
+    let code = c.args.code.now in
+    let method = c.args.method.now in
+    IfOk-weaker c.lines_for.result (AreVerdictsBy encoding) _
+    (λ lines decided gives_int max_stack max_locals descriptor thin.
+    let of : IsEncodingOf code method encoding = record { params = c.args.params; gives_int = gives_int; descriptor = descriptor; represents = c.in_ok-encoding.ensures gives_int max_stack max_locals thin } in
+    All-weaker (λ (line : Line). IsVerdictBy encoding line.goal line.verdict) (IsJustifiedLine code method) (λ line one. one code method of) lines decided)
+    c.lines_for.ensures.justified
