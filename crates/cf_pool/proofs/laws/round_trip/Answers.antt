@@ -1,0 +1,6 @@
+-- The spelling of what was read is what was read.
+use Rattle.cf_pool.proofs.PoolOne.{spelled_again}
+use Rattle.cf_pool.proofs.laws.round_trip.Goals as goal
+
+pub returns : goal.returns
+returns c = spelled_again
