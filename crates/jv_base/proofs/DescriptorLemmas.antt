@@ -1,15 +1,10 @@
 -- A descriptor has one form.
-use Rattle.std.proofs.Common.{◌≡◌, ◌≢◌, ℕ, zero, suc, ◌+◌, ◌<◌, ◌≤◌, Bool, true, false, eqb, List, [], ◌∷◌, ◌++◌, length, get_or, take, drop, replicate, Option, Some, None, refl, sym, ap, subst, ◌∙◌, append_assoc, add-zero, arith, inl, inr, IsTrue, ◌-◌}
-use Rattle.std.specs.List.{All, flat_map, join_with_byte, prefix_len}
-use Rattle.std.specs.Prelude.{IfSome, IfNone}
-use Rattle.std.specs.Borrow.{Bor}
-use Rattle.std.proofs.lemmas.Bool.{false≢true, cases_lt, eqb-false}
-use Rattle.std.proofs.lemmas.Bool.Decides.{eqb_tells}
-use Rattle.std.proofs.lemmas.List.Sums.{prefix_len_stops}
-use Rattle.std.proofs.Math.Numerals.{one-add}
-use Rattle.std.proofs.lemmas.List.{append-nil, take_rest, get_or-drop, get_or_past, length-append, length-replicate, nil_from_length}
-use Rattle.std.proofs.lemmas.List.Concat.{flat_map-append}
-use Rattle.std.proofs.lemmas.List.Elements.{All-nil, All-cons, All-head, All-tail, All-weaker, All-append, All-push}
+use Rattle.std.proofs.Common.{◌≡◌, ◌≢◌, ℕ, zero, suc, ◌≤◌, Bool, true, false, List, [], ◌∷◌, ◌++◌, length, get_or, replicate, Option, Some, None, refl, sym, ap, subst, ◌∙◌, append_assoc, arith, IsTrue}
+use Rattle.std.specs.List.{All, flat_map, join_with_byte}
+use Rattle.std.specs.Prelude.{IfSome}
+use Rattle.std.proofs.lemmas.Bool.{false≢true}
+use Rattle.std.proofs.lemmas.List.{append-nil, nil_from_length}
+use Rattle.std.proofs.lemmas.List.Elements.{All-nil, All-cons, All-head, All-tail, All-weaker, All-append}
 use Rattle.jv_base.specs.Names.{IsNameByte, IsUnqualifiedName, IsClassName}
 use Rattle.jv_base.specs.Descriptor.{ElementType, base, object, FieldType, is_base_letter, IsElementType, IsFieldType, IsMethodDescriptor, class_text, element_text, field_text, result_text, method_text}
 use Rattle.jv_base.specs.Front.{HasFront}
@@ -30,13 +25,10 @@ class_without c slash other name h =
     let P : List ℕ → Type 0 = λ n. All (λ b. b ≢ c) n in
     subst P (sym h.3) (joined_without c slash other h.0 h.2)
 
-no_semicolon : (name : List ℕ) → IsClassName name → All (λ b. b ≢ 59) name
+pub no_semicolon : (name : List ℕ) → IsClassName name → All (λ b. b ≢ 59) name
 no_semicolon name h = class_without 59 (λ e. omega (arith, e)) (λ b n. n.1) name h
 
 -- ---- a class name and `;`
-
-pub class_found : (text name rest : List ℕ) → text ≡ name ++ 59 ∷ rest → IsClassName name → HasFront IsClassName class_text text rest
-class_found text name rest e h = (name, h, e ∙ sym (append_assoc name (59 ∷ []) rest))
 
 pub class_other : (text xs ys : List ℕ) → text ≡ xs ++ 59 ∷ ys → All (λ b. b ≢ 59) xs → (IsClassName xs → ⊥) → (rest : List ℕ) → HasFront IsClassName class_text text rest → ⊥
 class_other text xs ys e no_mark other rest h =
@@ -54,12 +46,6 @@ class_same m n x y h k e =
 
 -- ---- elements
 
-pub element_base : (text rest : List ℕ) (b : ℕ) → text ≡ b ∷ rest → IsTrue (is_base_letter b) → HasFront IsElementType element_text text rest
-element_base text rest b e h = (base b, h, e)
-
-pub element_object : (text xs rest : List ℕ) → text ≡ 76 ∷ xs → HasFront IsClassName class_text xs rest → HasFront IsElementType element_text text rest
-element_object text xs rest e h = (object h.0, h.1, e ∙ ap (λ (t : List ℕ). 76 ∷ t) h.2)
-
 -- no byte but these begins an element
 element_first : (c : ℕ) → is_base_letter c ≡ false → c ≢ 76 → (t : ElementType) (rest : List ℕ) → IsElementType t → get_or (element_text t ++ rest) 0 0 ≡ c → ⊥
 element_first c no_letter no_class (base b) rest h e = false≢true (sym no_letter ∙ subst (λ (l : ℕ). is_base_letter l ≡ true) e h)
@@ -68,9 +54,6 @@ element_first c no_letter no_class (object n) rest h e = no_class (sym e)
 pub element_none : (text xs : List ℕ) (b : ℕ) → text ≡ b ∷ xs → is_base_letter b ≡ false → b ≢ 76 → (rest : List ℕ) → HasFront IsElementType element_text text rest → ⊥
 element_none text xs b e no_letter no_class rest h =
     element_first b no_letter no_class h.0 rest h.1 (ap (λ (t : List ℕ). get_or t 0 0) (sym h.2 ∙ e))
-
-pub element_empty : (text : List ℕ) → length text ≡ 0 → (rest : List ℕ) → HasFront IsElementType element_text text rest → ⊥
-element_empty text e rest h = element_first 0 refl (λ z. omega (arith, z)) h.0 rest h.1 (ap (λ (t : List ℕ). get_or t 0 0) (sym h.2 ∙ nil_from_length text e))
 
 not_class : (t : ElementType) (xs rest : List ℕ) → IsElementType t → 76 ∷ xs ≡ element_text t ++ rest → ((r : List ℕ) → HasFront IsClassName class_text xs r → ⊥) → ⊥
 not_class (base b) xs rest h e none = let letter : 76 ≡ b = cc in false≢true (subst (λ (l : ℕ). is_base_letter l ≡ true) (sym letter) h)
@@ -87,7 +70,7 @@ element_same (object m) (object n) x y h k e = let rest : class_text m ++ x ≡ 
 
 -- ---- field types
 
-brackets_same : (m n : ℕ) (xs ys : List ℕ) → get_or xs 0 0 ≢ 91 → get_or ys 0 0 ≢ 91 → replicate m 91 ++ xs ≡ replicate n 91 ++ ys → (m ≡ n) × (xs ≡ ys)
+pub brackets_same : (m n : ℕ) (xs ys : List ℕ) → get_or xs 0 0 ≢ 91 → get_or ys 0 0 ≢ 91 → replicate m 91 ++ xs ≡ replicate n 91 ++ ys → (m ≡ n) × (xs ≡ ys)
 brackets_same zero zero xs ys h k e = (refl, e)
 brackets_same zero (suc n) xs ys h k e = absurd (h (ap (λ (t : List ℕ). get_or t 0 0) e))
 brackets_same (suc m) zero xs ys h k e = absurd (k (sym (ap (λ (t : List ℕ). get_or t 0 0) e)))
@@ -96,35 +79,8 @@ brackets_same (suc m) (suc n) xs ys h k e =
     let same = brackets_same m n xs ys h k rest in
     (ap suc same.0, same.1)
 
-abbrev leading_brackets : List ℕ → ℕ
-leading_brackets text = prefix_len (λ b. eqb b 91) text
-
-brackets_front : (text : List ℕ) → text ≡ replicate (leading_brackets text) 91 ++ drop (leading_brackets text) text
-brackets_front [] = refl
-brackets_front (b ∷ bs) =
-    elim (eqb_tells b 91) [
-      | inl t ↦ rw (t.0, one-add, t.1) (ap (λ (s : List ℕ). 91 ∷ s) (brackets_front bs))
-      | inr t ↦ rw t.0 refl
-    ]
-
--- the brackets at the front of a text, and the rest as a slice of it
-pub brackets_parts : (text : List ℕ) (n : ℕ) → n ≡ leading_brackets text → text ≡ replicate n 91 ++ take (length text - n) (drop n text)
-brackets_parts text n e = rw (take_rest text n, e) (brackets_front text)
-
-pub brackets_all : (text : List ℕ) (n : ℕ) → n ≡ leading_brackets text → get_or (take (length text - n) (drop n text)) 0 0 ≢ 91
-brackets_all text n e =
-    rw (take_rest text n, get_or-drop n text 0 0, add-zero)
-    (elim (cases_lt n (length text)) [
-      | inl lt ↦ λ at. eqb-false (get_or text (leading_brackets text) 0) 91 (prefix_len_stops (λ b. eqb b 91) text 0 (rw e at lt)) (ap (λ (k : ℕ). get_or text k 0) (sym e) ∙ at)
-      | inr ge ↦ λ at. absurd (omega (arith, sym (get_or_past text n 0 ge) ∙ at))
-    ])
-
-no_bracket : (t : ElementType) (rest : List ℕ) → IsElementType t → get_or (element_text t ++ rest) 0 0 ≢ 91
+pub no_bracket : (t : ElementType) (rest : List ℕ) → IsElementType t → get_or (element_text t ++ rest) 0 0 ≢ 91
 no_bracket t rest h = element_first 91 refl (λ e. omega (arith, e)) t rest h
-
-pub field_found : (text xs rest : List ℕ) (n : ℕ) → text ≡ replicate n 91 ++ xs → n ≤ 255 → HasFront IsElementType element_text xs rest → HasFront IsFieldType field_text text rest
-field_found text xs rest n e le h =
-    (record { dimensions = n; element = h.0 }, (le, h.1), e ∙ ap (λ (t : List ℕ). replicate n 91 ++ t) h.2 ∙ sym (append_assoc (replicate n 91) (element_text h.0) rest))
 
 -- a field type behind brackets has them all
 pub field_parts : (text xs rest : List ℕ) (n : ℕ) → text ≡ replicate n 91 ++ xs → get_or xs 0 0 ≢ 91 → HasFront IsFieldType field_text text rest → (n ≤ 255) × HasFront IsElementType element_text xs rest
@@ -140,17 +96,6 @@ field_same t u x y h k e =
     let same = brackets_same t.dimensions u.dimensions (element_text t.element ++ x) (element_text u.element ++ y) (no_bracket t.element x h.1) (no_bracket u.element y k.1) whole in
     element_same t.element u.element x y h.1 k.1 same.1
 
-element_some : (t : ElementType) → 0 < length (element_text t)
-element_some (base b) = omega arith
-element_some (object n) = omega arith
-
-pub field_shorter : (text rest : List ℕ) → HasFront IsFieldType field_text text rest → length rest < length text
-field_shorter text rest h =
-    let t = h.0 in
-    let sum : length text ≡ t.dimensions + length (element_text t.element) + length rest =
-    ap length h.2 ∙ simp (length-append, length-replicate) refl in
-    omega (arith, sum, element_some t.element)
-
 -- a byte that begins no field type
 field_first : (c : ℕ) → is_base_letter c ≡ false → c ≢ 76 → c ≢ 91 → (t : FieldType) (rest : List ℕ) → IsFieldType t → get_or (field_text t ++ rest) 0 0 ≡ c → ⊥
 field_first c no_letter no_class no_array t rest h e =
@@ -165,18 +110,6 @@ abbrev pub HasNoField : List ℕ → Type 0
 HasNoField text = (rest : List ℕ) → HasFront IsFieldType field_text text rest → ⊥
 
 -- ---- parameters
-
-pub parameters_none : (text : List ℕ) → HasFront (All IsFieldType) (flat_map field_text) text text
-parameters_none text = ([], All-nil IsFieldType, refl)
-
-pub parameters_more : (text rest after : List ℕ) → HasFront (All IsFieldType) (flat_map field_text) text rest → HasFront IsFieldType field_text rest after → HasFront (All IsFieldType) (flat_map field_text) text after
-parameters_more text rest after h k =
-    let longer : flat_map field_text (h.0 ++ k.0 ∷ []) ≡ flat_map field_text h.0 ++ field_text k.0 =
-    flat_map-append field_text h.0 (k.0 ∷ []) ∙ ap (λ (s : List ℕ). flat_map field_text h.0 ++ s) (append-nil (field_text k.0)) in (
-      h.0 ++ k.0 ∷ [],
-      All-push IsFieldType h.0 k.0 h.1 k.1,
-      h.2 ∙ ap (λ (s : List ℕ). flat_map field_text h.0 ++ s) k.2 ∙ sym (append_assoc (flat_map field_text h.0) (field_text k.0) after) ∙ ap (λ (s : List ℕ). s ++ after) (sym longer),
-    )
 
 -- what follows the parameters is one text
 parameters_same : (ts us : List FieldType) (x y : List ℕ) → All IsFieldType ts → All IsFieldType us → HasNoField x → HasNoField y → flat_map field_text ts ++ x ≡ flat_map field_text us ++ y → x ≡ y
@@ -204,13 +137,6 @@ result_at_field text rest h = (
   λ e. (Some h.0, h.1, h.2 ∙ ap (λ (s : List ℕ). field_text h.0 ++ s) (nil_from_length rest e) ∙ append-nil (field_text h.0)),
   λ k. nothing_after h.0 rest h.1 k.0 k.1 (sym h.2 ∙ k.2),
 )
-
-only_void : (text : List ℕ) → HasNoField text → (r : Option FieldType) → IfSome r IsFieldType → text ≡ result_text r → text ≡ 86 ∷ []
-only_void text none None k e = e
-only_void text none (Some u) k e = absurd (none [] (u, k, e ∙ sym (append-nil (field_text u))))
-
-pub result_without_field : (text : List ℕ) → HasNoField text → (text ≡ 86 ∷ [] → IsResultText text) × (IsResultText text → text ≡ 86 ∷ [])
-result_without_field text none = (λ e. (None, tt, e), λ k. only_void text none k.0 k.1 k.2)
 
 -- ---- descriptors
 
@@ -245,21 +171,3 @@ method_decided text parameters rest returned r e k none at decides = (
       let same : returned ≡ parts.0 = cc in
       decides.1 (subst (λ (s : List ℕ). IsResultText s) (sym same) parts.2),
 )
-
--- ---- answers of a reader, passed on
-
-pub element_option_found : (text xs : List ℕ) (r : Option (Bor (List ℕ))) → text ≡ 76 ∷ xs → IfSome r (λ rest. HasFront IsClassName class_text xs rest.now) → IfSome r (λ rest. HasFront IsElementType element_text text rest.now)
-element_option_found text xs None e h = tt
-element_option_found text xs (Some rest) e h = element_object text xs rest.now e h
-
-pub element_option_none : (text xs : List ℕ) (r : Option (Bor (List ℕ))) → text ≡ 76 ∷ xs → IfNone r ((rest : List ℕ) → HasFront IsClassName class_text xs rest → ⊥) → IfNone r ((rest : List ℕ) → HasFront IsElementType element_text text rest → ⊥)
-element_option_none text xs None e h = element_no_class text xs e h
-element_option_none text xs (Some rest) e h = tt
-
-pub field_option_found : (text xs : List ℕ) (n : ℕ) (r : Option (Bor (List ℕ))) → text ≡ replicate n 91 ++ xs → n ≤ 255 → IfSome r (λ rest. HasFront IsElementType element_text xs rest.now) → IfSome r (λ rest. HasFront IsFieldType field_text text rest.now)
-field_option_found text xs n None e le h = tt
-field_option_found text xs n (Some rest) e le h = field_found text xs rest.now n e le h
-
-pub field_option_none : (text xs : List ℕ) (n : ℕ) (r : Option (Bor (List ℕ))) → text ≡ replicate n 91 ++ xs → get_or xs 0 0 ≢ 91 → IfNone r ((rest : List ℕ) → HasFront IsElementType element_text xs rest → ⊥) → IfNone r ((rest : List ℕ) → HasFront IsFieldType field_text text rest → ⊥)
-field_option_none text xs n None e first h = λ rest k. h rest (field_parts text xs rest n e first k).1
-field_option_none text xs n (Some rest) e first h = tt

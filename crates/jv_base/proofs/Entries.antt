@@ -1,123 +1,102 @@
 -- A method's text form falls into parts in one way.
-use Rattle.std.proofs.Common.{◌≡◌, ◌≢◌, ℕ, ◌/◌, ◌%◌, true, false, List, [], ◌∷◌, ◌++◌, length, refl, sym, ap, subst, ◌∙◌, append_assoc, arith, inl, inr}
-use Rattle.std.specs.List.{All, flat_map}
-use Rattle.std.specs.Char.Escape.{encode_utf16}
-use Rattle.std.specs.Fmt.{digit_glyph}
-use Rattle.std.specs.Str.{IsUtf8, chars}
-use Rattle.std.specs.Prelude.{encode_utf8, encode_utf8_all}
-use Rattle.std.proofs.lemmas.Bool.{false≢true, cases_Bool}
-use Rattle.std.proofs.lemmas.Bool.Decides.{nat_tests}
-use Rattle.std.proofs.lemmas.List.{drop_at}
-use Rattle.std.proofs.lemmas.List.Elements.{All-nil, All-cons, All-head, All-tail, All-append, All-drop}
-use Rattle.std.proofs.lemmas.Str.{encodes-chars, encode_ascii}
+use Rattle.std.proofs.Common.{◌≡◌, ◌≢◌, ℕ, ◌<◌, List, [], ◌∷◌, ◌++◌, codes, refl, sym, ap, subst, ◌∙◌, append_assoc, arith}
+use Rattle.std.specs.List.{All}
+use Rattle.std.specs.Prelude.{None}
+use Rattle.std.proofs.lemmas.List.Elements.{All-nil, All-cons, All-append}
+use Rattle.jv_base.specs.declared.form.Form.TheVariants.{ClassName, MethodName, MethodDescriptor}
 use Rattle.jv_base.specs.declared.method.MethodId.{MethodId}
-use Rattle.jv_base.specs.Entry.{IsEntry}
-use Rattle.jv_base.specs.Spelling.{is_plain, unit_text, escape_text, character_text, name_text, entry_spelling}
-use Rattle.jv_base.proofs.CutLemmas.{cut_same, not_without}
-use Rattle.jv_base.proofs.DescriptorLemmas.{class_without}
+use Rattle.jv_base.specs.Descriptor.{IsFieldType}
+use Rattle.jv_base.specs.Entry.{IsEntry, IsEntryText}
+use Rattle.jv_base.specs.Forms.{IsSpelled}
+use Rattle.jv_base.specs.Front.{IsLongestFront, Joined, StopsAt}
+use Rattle.jv_base.specs.Names.{IsNameByte}
+use Rattle.jv_base.specs.Spelling.{name_text, entry_spelling}
+use Rattle.jv_base.proofs.CutLemmas.{cut_same}
+use Rattle.jv_base.proofs.Joining.{stops_at, front_same}
 use Rattle.jv_base.proofs.NameTexts.{name_same}
+use Rattle.jv_base.proofs.SpelledTexts.{spelled_ascii, class_no_dot, name_no_colon, IsPlain, plain_spelled}
 
--- ---- marks in a text
+-- ---- the grammar
 
--- a byte that stands in no escape
-record IsMark (c : ℕ) : Type 0 where
-  backslash : 92 ≢ c
-  letter : 117 ≢ c
-  digit : (d : ℕ) → digit_glyph false d ≢ c
+-- a method without its class
+abbrev pub IsMethodText : List ℕ → Type 0
+IsMethodText text = Joined 58 (IsSpelled MethodName) (IsSpelled MethodDescriptor) text
 
-dot : IsMark 46
-dot = record { backslash = λ e. omega (arith, e); letter = λ e. omega (arith, e); digit = λ d e. grind (arith, nat_tests) }
-
-colon : IsMark 58
-colon = record { backslash = λ e. omega (arith, e); letter = λ e. omega (arith, e); digit = λ d e. grind (arith, nat_tests) }
-
-six_without : (c p q r s t u : ℕ) → p ≢ c → q ≢ c → r ≢ c → s ≢ c → t ≢ c → u ≢ c → All (λ b. b ≢ c) (p ∷ q ∷ r ∷ s ∷ t ∷ u ∷ [])
-six_without c p q r s t u hp hq hr hs ht hu =
-    let P : ℕ → Type 0 = λ b. b ≢ c in
-    All-cons P p (q ∷ r ∷ s ∷ t ∷ u ∷ []) hp (All-cons P q (r ∷ s ∷ t ∷ u ∷ []) hq (All-cons P r (s ∷ t ∷ u ∷ []) hr
-    (All-cons P s (t ∷ u ∷ []) hs (All-cons P t (u ∷ []) ht (All-cons P u [] hu (All-nil P))))))
-
-module _ (c : ℕ) (mark : IsMark c) where
-  unit_without : (u : ℕ) → All (λ b. b ≢ c) (unit_text u)
-  unfolding unit_text
-  unit_without u =
-      six_without c 92 117 (digit_glyph false (u / 4096)) (digit_glyph false (u / 256 % 16)) (digit_glyph false (u / 16 % 16)) (digit_glyph false (u % 16))
-      mark.backslash mark.letter (mark.digit (u / 4096)) (mark.digit (u / 256 % 16)) (mark.digit (u / 16 % 16)) (mark.digit (u % 16))
-
-  units_without : (us : List ℕ) → All (λ b. b ≢ c) (flat_map unit_text us)
-  units_without [] = All-nil (λ b. b ≢ c)
-  units_without (u ∷ us) = All-append (λ b. b ≢ c) (unit_text u) (flat_map unit_text us) (unit_without u) (units_without us)
-
-  character_without : (d : ℕ) → (is_plain d ≡ true → d ≢ c) → All (λ b. b ≢ c) (character_text d)
-  unfolding character_text escape_text
-  character_without d other =
-      elim (cases_Bool (is_plain d)) [
-        | inl p ↦ rw p (All-cons (λ b. b ≢ c) d [] (other p) (All-nil (λ b. b ≢ c)))
-        | inr n ↦ rw n (units_without (encode_utf16 d))
-      ]
-
-  characters_without : (ds : List ℕ) → All (λ d. is_plain d ≡ true → d ≢ c) ds → All (λ b. b ≢ c) (flat_map character_text ds)
-  characters_without [] all = All-nil (λ b. b ≢ c)
-  characters_without (d ∷ ds) all =
-      All-append (λ b. b ≢ c) (character_text d) (flat_map character_text ds) (character_without d (All-head (λ e. is_plain e ≡ true → e ≢ c) d ds all)) (characters_without ds (All-tail (λ e. is_plain e ≡ true → e ≢ c) d ds all))
-
--- no text of a name has a colon
-name_no_colon : (name : List ℕ) → All (λ b. b ≢ 58) (name_text name)
-unfolding name_text
-name_no_colon name = characters_without 58 colon (chars name) (λ k d lt p e. plain_colon _ p e)
-  where
-    plain_colon : (d : ℕ) → is_plain d ≡ true → d ≡ 58 → ⊥
-    plain_colon d p e = false≢true (subst (λ (x : ℕ). is_plain x ≡ true) e p)
-
-chars_no_dot : (cs : List ℕ) → All (λ b. b ≢ 46) (encode_utf8_all cs) → All (λ d. is_plain d ≡ true → d ≢ 46) cs
-chars_no_dot [] all = All-nil (λ d. is_plain d ≡ true → d ≢ 46)
-chars_no_dot (c ∷ cs) all =
-    let rest : All (λ b. b ≢ 46) (encode_utf8_all cs) =
-    let P : List ℕ → Type 0 = λ bs. All (λ b. b ≢ 46) bs in
-    subst P (drop_at (encode_utf8 c) (encode_utf8_all cs) (length (encode_utf8 c)) refl) (All-drop (λ b. b ≢ 46) (length (encode_utf8 c)) (encode_utf8_all (c ∷ cs)) all) in
-    All-cons (λ d. is_plain d ≡ true → d ≢ 46) c cs (λ p e. first_no_dot c (encode_utf8_all cs) e all) (chars_no_dot cs rest)
-  where
-    first_no_dot : (c : ℕ) (rest : List ℕ) → c ≡ 46 → All (λ b. b ≢ 46) (encode_utf8 c ++ rest) → ⊥
-    first_no_dot c rest e all =
-        let Q : List ℕ → Type 0 = λ t. All (λ b. b ≢ 46) (t ++ rest) in
-        All-head (λ b. b ≢ 46) 46 rest (subst Q (ap encode_utf8 e ∙ encode_ascii 46 (omega arith)) all) refl
-
-name_no_dot : (name : List ℕ) → IsUtf8 name → All (λ b. b ≢ 46) name → All (λ b. b ≢ 46) (name_text name)
-unfolding name_text
-name_no_dot name text all =
-    let P : List ℕ → Type 0 = λ bs. All (λ b. b ≢ 46) bs in
-    characters_without 46 dot (chars name) (chars_no_dot (chars name) (subst P (sym (encodes-chars name text)) all))
-
-class_no_dot : (m : MethodId) → IsEntry m → All (λ b. b ≢ 46) (name_text m.class)
-class_no_dot m h = name_no_dot m.class h.class_text (class_without 46 (λ e. omega (arith, e)) (λ b n. n.0) m.class h.class)
-
--- ---- the parts of an entry
+abbrev pub IsParted : List ℕ → Type 0
+IsParted text = Joined 46 (IsSpelled ClassName) IsMethodText text
 
 regroup : (a b c : List ℕ) → a ++ 46 ∷ [] ++ b ++ 58 ∷ [] ++ c ≡ a ++ 46 ∷ (b ++ 58 ∷ c)
 regroup a b c = simp append_assoc
 
-pub class_part : (m : MethodId) (text class after : List ℕ) → IsEntry m → text ≡ class ++ 46 ∷ after → All (λ b. b ≢ 46) class → text ≡ entry_spelling m
-    → (class ≡ name_text m.class) × (after ≡ name_text m.name ++ 58 ∷ name_text m.desc)
-class_part m text class after h e no_dot k =
-    cut_same 46 class (name_text m.class) after (name_text m.name ++ 58 ∷ name_text m.desc) no_dot (class_no_dot m h) (sym e ∙ k ∙ regroup (name_text m.class) (name_text m.name) (name_text m.desc))
-
-pub name_part : (m : MethodId) (after name desc : List ℕ) → after ≡ name ++ 58 ∷ desc → All (λ b. b ≢ 58) name → after ≡ name_text m.name ++ 58 ∷ name_text m.desc
-    → (name ≡ name_text m.name) × (desc ≡ name_text m.desc)
-name_part m after name desc e no_colon k =
-    cut_same 58 name (name_text m.name) desc (name_text m.desc) no_colon (name_no_colon m.name) (sym e ∙ k)
-
-pub no_name_part : (m : MethodId) (after : List ℕ) → All (λ b. b ≢ 58) after → after ≡ name_text m.name ++ 58 ∷ name_text m.desc → ⊥
-no_name_part m after none k = not_without 58 (name_text m.name) (name_text m.desc) after k none
-
 abbrev method : List ℕ → List ℕ → List ℕ → MethodId
 method class name desc = record { class = class; name = name; desc = desc }
 
+-- an entry's text, by its marks
+parted : (text : List ℕ) → IsEntryText text → IsParted text
+parted text (m, h, e) = (
+  name_text m.class,
+  name_text m.name ++ 58 ∷ name_text m.desc,
+  (m.class, h.class_text, h.class, refl),
+  (name_text m.name, name_text m.desc, (m.name, h.name_text, h.name, refl), (m.desc, h.desc_text, h.desc, refl), refl),
+  e ∙ regroup (name_text m.class) (name_text m.name) (name_text m.desc),
+)
+
+joined_same : (text a r b c : List ℕ) (class name desc : List ℕ) → text ≡ a ++ 46 ∷ r → r ≡ b ++ 58 ∷ c → a ≡ name_text class → b ≡ name_text name → c ≡ name_text desc
+    → text ≡ entry_spelling (method class name desc)
+joined_same text a r b c class name desc e k ea eb ec = rw (e, k, ea, eb, ec) (sym (regroup (name_text class) (name_text name) (name_text desc)))
+
+whole : (text : List ℕ) → IsParted text → IsEntryText text
+whole text (a, r, (class, cu, cf, ce), (b, c, (name, nu, nf, ne), (desc, du, df, de), k), e) = (
+  method class name desc,
+  record { class_text = cu; name_text = nu; desc_text = du; class = cf; name = nf; desc = df },
+  joined_same text a r b c class name desc e k ce ne de,
+)
+
+entry_ascii : (text : List ℕ) → IsEntryText text → All (λ b. b < 128) text
+entry_ascii text h =
+    let P : ℕ → Type 0 = λ b. b < 128 in
+    let parts = parted text h in
+    let inner = parts.3 in
+    let method_ascii : All P parts.1 =
+    subst (λ (t : List ℕ). All P t) (sym inner.4) (All-append P inner.0 (58 ∷ inner.1) (spelled_ascii MethodName inner.0 inner.2)
+    (All-cons P 58 inner.1 (omega arith) (spelled_ascii MethodDescriptor inner.1 inner.3))) in
+    subst (λ (t : List ℕ). All P t) (sym parts.4) (All-append P parts.0 (46 ∷ parts.1) (spelled_ascii ClassName parts.0 parts.2) (All-cons P 46 parts.1 (omega arith) method_ascii))
+
+-- each grammar behind a mark has a text
+pub some_descriptor : IsSpelled MethodDescriptor (codes "()V")
+some_descriptor =
+    let plain = plain_spelled (codes "()V") (All-cons IsPlain 40 (41 ∷ 86 ∷ []) refl (All-cons IsPlain 41 (86 ∷ []) refl (All-cons IsPlain 86 [] refl (All-nil IsPlain)))) in
+    (codes "()V", plain.0, (record { parameters = []; result = None }, (All-nil IsFieldType, tt), refl), plain.1)
+
+some_name : IsSpelled MethodName (codes "a")
+some_name =
+    let plain = plain_spelled (codes "a") (All-cons IsPlain 97 [] refl (All-nil IsPlain)) in
+    let letter : IsNameByte 97 = (λ e. omega (arith, e), λ e. omega (arith, e), λ e. omega (arith, e), λ e. omega (arith, e), λ e. omega (arith, e)) in
+    let P : ℕ → Type 0 = λ b. (b ≢ 60) × (b ≢ 62) in
+    let other : P 97 = (λ e. omega (arith, e), λ e. omega (arith, e)) in
+    (codes "a", plain.0, ((omega arith, All-cons IsNameByte 97 [] letter (All-nil IsNameByte)), All-cons P 97 [] other (All-nil P)), plain.1)
+
+pub some_method : IsMethodText (codes "a:()V")
+some_method = (codes "a", codes "()V", some_name, some_descriptor, refl)
+
+pub entry_not : (text : List ℕ) → (IsParted text → ⊥) → (m : MethodId) → IsEntry m → text ≡ entry_spelling m → ⊥
+entry_not text none m h e = none (parted text (m, h, e))
+
+pub entry_stops : (text : List ℕ) (count : ℕ) → IsLongestFront IsParted text count → StopsAt IsEntryText text count
+entry_stops text count h = stops_at IsEntryText text count entry_ascii (front_same IsParted IsEntryText text count whole parted h)
+
+-- ---- one method
+
 pub entry_same : (m n : MethodId) → IsEntry m → IsEntry n → entry_spelling m ≡ entry_spelling n → m ≡ n
 entry_same m n h k e =
-    let after : List ℕ = name_text m.name ++ 58 ∷ name_text m.desc in
-    let parts = class_part n (entry_spelling m) (name_text m.class) after k (regroup (name_text m.class) (name_text m.name) (name_text m.desc)) (class_no_dot m h) e in
-    let names = name_part n after (name_text m.name) (name_text m.desc) refl (name_no_colon m.name) parts.1 in
-    let class : m.class ≡ n.class = name_same m.class n.class h.class_text k.class_text parts.0 in
+    let behind : MethodId → List ℕ = λ i. name_text i.name ++ 58 ∷ name_text i.desc in
+    let classes = cut_same 46 (name_text m.class) (name_text n.class) (behind m) (behind n) (entry_no_dot m h) (entry_no_dot n k)
+    (sym (regroup (name_text m.class) (name_text m.name) (name_text m.desc)) ∙ e ∙ regroup (name_text n.class) (name_text n.name) (name_text n.desc)) in
+    let names = cut_same 58 (name_text m.name) (name_text n.name) (name_text m.desc) (name_text n.desc) (name_no_colon m.name h.name_text) (name_no_colon n.name k.name_text) classes.1 in
+    let class : m.class ≡ n.class = name_same m.class n.class h.class_text k.class_text classes.0 in
     let name : m.name ≡ n.name = name_same m.name n.name h.name_text k.name_text names.0 in
     let desc : m.desc ≡ n.desc = name_same m.desc n.desc h.desc_text k.desc_text names.1 in
     ap (λ (c : List ℕ). method c m.name m.desc) class ∙ ap (λ (c : List ℕ). method n.class c m.desc) name ∙ ap (λ (c : List ℕ). method n.class n.name c) desc
+  where
+    entry_no_dot : (i : MethodId) → IsEntry i → All (λ b. b ≢ 46) (name_text i.class)
+    entry_no_dot i p = class_no_dot (name_text i.class) (i.class, p.class_text, p.class, refl)

@@ -16,7 +16,7 @@ if_none (Some x) P p = tt
 
 -- ---- units
 
-glyph_same : (a b : ℕ) → a < 16 → b < 16 → digit_glyph false a ≡ digit_glyph false b → a ≡ b
+pub glyph_same : (a b : ℕ) → a < 16 → b < 16 → digit_glyph false a ≡ digit_glyph false b → a ≡ b
 glyph_same a b la lb e = grind (arith, nat_tests)
 
 unit_by_digits : (u v : ℕ) → u < 2 ^ 16 → v < 2 ^ 16 → u / 4096 ≡ v / 4096 → u / 256 % 16 ≡ v / 256 % 16 → u / 16 % 16 ≡ v / 16 % 16 → u % 16 ≡ v % 16 → u ≡ v
@@ -104,28 +104,28 @@ unit_found text rest a b c d la lb lc ld e =
 
 -- ---- escapes
 
-abbrev high_of : ℕ → ℕ
+abbrev pub high_of : ℕ → ℕ
 high_of c = 0xd800 + (c - 0x1_0000) / 0x400
 
-abbrev low_of : ℕ → ℕ
+abbrev pub low_of : ℕ → ℕ
 low_of c = 0xdc00 + (c - 0x1_0000) % 0x400
 
-escape_small : (c : ℕ) (x : List ℕ) → c < 0x1_0000 → escape_text c ++ x ≡ unit_text c ++ x
+pub escape_small : (c : ℕ) (x : List ℕ) → c < 0x1_0000 → escape_text c ++ x ≡ unit_text c ++ x
 unfolding escape_text
 escape_small c x lt = rw (lt-ltb c 0x1_0000 lt, append-nil (unit_text c)) refl
 
-escape_big : (c : ℕ) (x : List ℕ) → 0x1_0000 ≤ c → escape_text c ++ x ≡ unit_text (high_of c) ++ (unit_text (low_of c) ++ x)
+pub escape_big : (c : ℕ) (x : List ℕ) → 0x1_0000 ≤ c → escape_text c ++ x ≡ unit_text (high_of c) ++ (unit_text (low_of c) ++ x)
 unfolding escape_text
 escape_big c x le = rw (le-ltb c 0x1_0000 le, append-nil (unit_text (low_of c))) (append_assoc (unit_text (high_of c)) (unit_text (low_of c)) x)
 
 -- a scalar value is below 0x11_0000, and no surrogate
-scalar_bound : (c : ℕ) → IsScalar c → c < 0x11_0000
+pub scalar_bound : (c : ℕ) → IsScalar c → c < 0x11_0000
 scalar_bound c h = elim (scalar_cases c h) [ inl a ↦ omega arith | inr b ↦ omega arith ]
 
-not_surrogate : (c : ℕ) → IsScalar c → 0xd800 ≤ c → c < 0xe000 → ⊥
+pub not_surrogate : (c : ℕ) → IsScalar c → 0xd800 ≤ c → c < 0xe000 → ⊥
 not_surrogate c h from to = elim (scalar_cases c h) [ inl a ↦ omega arith | inr b ↦ omega arith ]
 
-high_fits : (c : ℕ) → IsScalar c → 0x1_0000 ≤ c → high_of c < 0xdc00
+pub high_fits : (c : ℕ) → IsScalar c → 0x1_0000 ≤ c → high_of c < 0xdc00
 high_fits c h le = let bound = scalar_bound c h in omega arith
 
 pub escape_same : (c d : ℕ) (x y : List ℕ) → IsScalar c → IsScalar d → escape_text c ++ x ≡ escape_text d ++ y → (c ≡ d) × (x ≡ y)

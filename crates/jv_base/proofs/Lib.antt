@@ -1,6 +1,15 @@
 pub mod CutLemmas
 pub mod DescriptorLemmas
 pub mod Entries
+pub mod EscapeFronts
 pub mod Escapes
-pub mod NameLemmas
+pub mod FormEnds
+pub mod FormLaws
+pub mod FormLeads
+pub mod Joining
 pub mod NameTexts
+pub mod OneDescriptor
+pub mod SiteTexts
+pub mod SpelledFronts
+pub mod SpelledTexts
+pub mod TypeTexts

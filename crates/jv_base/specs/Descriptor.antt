@@ -57,3 +57,7 @@ method_text m = codes "(" ++ flat_map field_text m.parameters ++ codes ")" ++ re
 -- the text is that of some method type
 abbrev pub IsMethodDescriptor : List ℕ → Type 0
 IsMethodDescriptor text = (m : MethodType) × IsMethodType m × (text ≡ method_text m)
+
+-- the text is that of some field type (JVM Specification SE 8, 4.3.2)
+abbrev pub IsFieldDescriptor : List ℕ → Type 0
+IsFieldDescriptor text = (t : FieldType) × IsFieldType t × (text ≡ field_text t)

@@ -1,6 +1,10 @@
 pub mod Descriptor
 pub mod Entry
+pub mod Forms
 pub mod Front
 pub mod Names
 pub mod Order
+pub mod SiteParts
 pub mod Spelling
+pub mod Types
+pub mod Units

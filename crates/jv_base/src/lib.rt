@@ -3,18 +3,21 @@
 #![tactic(auto)]
 
 mod cut;
-mod descriptor;
+mod escaped;
 mod fault;
+mod form;
 mod input;
 mod list;
 mod method;
 mod name;
-mod names;
 mod order;
 mod reading;
+mod site;
+mod spelled;
 mod spelling;
 #[cfg(test)]
 mod tests;
+mod types;
 mod value;
 
 pub use fault::TextFault;
@@ -24,7 +27,9 @@ pub use method::{Bounds, FieldId, Goal, Kind, MethodId, Site};
 pub use name::Name;
 pub use order::compare_goals;
 pub use reading::{one_entry, read_entry};
+pub use site::{one_site, read_site};
 pub use spelling::{entry_text, push_name_text, site_text};
+pub use types::{one_descriptor, read_descriptor, read_field_type};
 pub use value::{Desc, Ty, Value};
 
 /// What a call gives that may find no memory.

@@ -4,18 +4,17 @@ ghost use Rattle.std.specs.Char.{IsScalar};
 ghost use Rattle.std.specs.Str.{IsUtf8};
 ghost use Rattle.std.specs.Fmt.{digit_glyph};
 ghost use Rattle.jv_base.specs.declared.method.MethodId.{MethodId};
-ghost use Rattle.jv_base.specs.Descriptor.{IsMethodDescriptor};
-ghost use Rattle.jv_base.specs.Entry.{IsEntry};
-ghost use Rattle.jv_base.specs.Front.{HasFront};
-ghost use Rattle.jv_base.specs.Names.{IsClassName, IsMethodName};
+ghost use Rattle.jv_base.specs.Entry.{IsEntry, IsEntryText};
+ghost use Rattle.jv_base.specs.Forms.{IsSpelled, IsTextOf};
+ghost use Rattle.jv_base.specs.Front.{HasFront, IsLongestFront, Joined, StopsAt};
 ghost use Rattle.jv_base.specs.Spelling.{IsUnit, unit_text, escape_text, character_text, name_text, entry_spelling};
 
 use crate::cut::{after_byte, cut};
-use crate::descriptor::is_method_descriptor;
-use crate::names::{is_class_name, is_method_name};
+use crate::form::Form;
+use crate::spelled::{part_of, spelled_front};
 use crate::spelling::is_plain;
-use crate::{MethodId, Name, TextFault};
-use std::alloc::Global;
+use crate::{Mem, MethodId, Name, TextFault};
+use std::alloc::{AllocError, Global};
 
 fn hex_value(digit: u8) -> Option<u16>
     ensures found { IfSome result (λ v. (v < 16) × (digit ≡ digit_glyph false v)) }
@@ -29,7 +28,7 @@ fn hex_value(digit: u8) -> Option<u16>
 }
 
 // The hexadecimal digit that a text begins with, and what follows it.
-fn digit_of(text: &[u8]) -> Option<(u16, &[u8])>
+pub(crate) fn digit_of(text: &[u8]) -> Option<(u16, &[u8])>
     ensures found { IfSome result (λ r. (r.0 < 16) × (text.now ≡ digit_glyph false r.0 ∷ r.1.now)) }
     ensures none { IfNone result ((v : ℕ) (rest : List ℕ) → v < 16 → text.now ≢ digit_glyph false v ∷ rest) }
 {
@@ -90,7 +89,7 @@ fn escape_of(text: &[u8]) -> Option<(char, &[u8])>
 }
 
 // The character that a text begins with, and what follows it.
-fn character_of(text: &[u8]) -> Option<(char, &[u8])>
+pub(crate) fn character_of(text: &[u8]) -> Option<(char, &[u8])>
     ensures found { IfSome result (λ r. IsScalar r.0 × (text.now ≡ character_text r.0 ++ r.1.now)) }
     ensures none { IfNone result ((rest : List ℕ) → HasFront IsScalar character_text text.now rest → ⊥) }
     ensures shorter { IfSome result (λ r. length r.1.now < length text.now) }
@@ -107,91 +106,60 @@ fn character_of(text: &[u8]) -> Option<(char, &[u8])>
     Some((c, rest))
 }
 
-// The name that a text spells. The place is that of the text in a longer one, and a fault has the place where no
-// character was read.
-fn name_of(alloc: Global, text: &[u8], place: u64) -> Result<Name, TextFault>
-    requires { place + length text.now < 2 ^ 64 }
-    ensures found { IfOk result (λ n. IsUtf8 n × (text.now ≡ name_text n)) }
-    ensures bad { (at : ℕ) → result ≡ Err (TextFault.Bad at)
-        → (n : List ℕ) → IsUtf8 n → text.now ≡ name_text n → ⊥ }
+// The name that a text spells, where it spells one.
+pub(crate) fn name_of(alloc: Global, text: &[u8]) -> Mem<Option<Name>>
+    ensures found { IfOk result (λ o. IfSome o (λ n. IsUtf8 n × (text.now ≡ name_text n))) }
+    ensures none { IfOk result (λ o. IfNone o ((n : List ℕ) → IsUtf8 n → text.now ≡ name_text n → ⊥)) }
 {
     let mut name = Name::new(alloc);
     let mut rest = text;
     while !rest.is_empty() {
         let Some((c, after)) = character_of(rest) else {
-            return Err(TextFault::Bad(place + (text.len() - rest.len()) as u64));
+            return Ok(None);
         };
         if name.push(c).is_err() {
-            return Err(TextFault::NoMemory);
+            return Err(AllocError);
         }
         rest = after;
     }
-    Ok(name)
+    Ok(Some(name))
 }
 
-// The class name that a text spells.
-fn class_of(alloc: Global, text: &[u8], place: u64) -> Result<Name, TextFault>
+// The name and the descriptor of the method whose text form, without the class, this is. The place is that of the text
+// in a longer one.
+fn read_method(alloc: Global, text: &[u8], place: u64) -> Result<(Name, Name), TextFault>
     requires { place + length text.now < 2 ^ 64 }
-    ensures found { IfOk result (λ n. IsUtf8 n × IsClassName n × (text.now ≡ name_text n)) }
+    ensures found { IfOk result (λ r. IsTextOf Form.MethodName r.0 × IsTextOf Form.MethodDescriptor r.1
+        × (text.now ≡ name_text r.0 ++ 58 ∷ name_text r.1)) }
     ensures bad { (at : ℕ) → result ≡ Err (TextFault.Bad at)
-        → (n : List ℕ) → IsUtf8 n → IsClassName n → text.now ≡ name_text n → ⊥ }
+        → Joined 58 (IsSpelled Form.MethodName) (IsSpelled Form.MethodDescriptor) text.now → ⊥ }
+    ensures place { (at : ℕ) → result ≡ Err (TextFault.Bad at) → (count : ℕ) × (at ≡ place + count)
+        × IsLongestFront (Joined 58 (IsSpelled Form.MethodName) (IsSpelled Form.MethodDescriptor)) text.now count }
 {
-    let name = name_of(alloc, text, place)?;
-    if is_class_name(name.as_str().as_bytes()) {
-        Ok(name)
-    } else {
-        Err(TextFault::Bad(place))
-    }
+    let Some((name, desc)) = cut(text, b':') else {
+        return Err(TextFault::Bad(place + spelled_front(Form::MethodName, text) as u64));
+    };
+    let desc_place = place + name.len() as u64 + 1;
+    let name = part_of(alloc, Form::MethodName, name, place)?;
+    let desc = part_of(alloc, Form::MethodDescriptor, desc, desc_place)?;
+    Ok((name, desc))
 }
 
-// The method name that a text spells.
-fn method_name_of(alloc: Global, text: &[u8], place: u64) -> Result<Name, TextFault>
-    requires { place + length text.now < 2 ^ 64 }
-    ensures found { IfOk result (λ n. IsUtf8 n × IsMethodName n × (text.now ≡ name_text n)) }
-    ensures bad { (at : ℕ) → result ≡ Err (TextFault.Bad at)
-        → (n : List ℕ) → IsUtf8 n → IsMethodName n → text.now ≡ name_text n → ⊥ }
-{
-    let name = name_of(alloc, text, place)?;
-    if is_method_name(name.as_str().as_bytes()) {
-        Ok(name)
-    } else {
-        Err(TextFault::Bad(place))
-    }
-}
-
-// The method descriptor that a text spells.
-fn descriptor_of(alloc: Global, text: &[u8], place: u64) -> Result<Name, TextFault>
-    requires { place + length text.now < 2 ^ 64 }
-    ensures found { IfOk result (λ n. IsUtf8 n × IsMethodDescriptor n × (text.now ≡ name_text n)) }
-    ensures bad { (at : ℕ) → result ≡ Err (TextFault.Bad at)
-        → (n : List ℕ) → IsUtf8 n → IsMethodDescriptor n → text.now ≡ name_text n → ⊥ }
-{
-    let name = name_of(alloc, text, place)?;
-    if is_method_descriptor(name.as_str().as_bytes()) {
-        Ok(name)
-    } else {
-        Err(TextFault::Bad(place))
-    }
-}
-
-/// The method whose text form this is. `Bad` comes where it is no entry's, and has a place where reading stopped.
+/// The method whose text form this is. `Bad` comes exactly where it is no entry's, with the number of characters of its
+/// longest prefix that begins one.
 pub fn read_entry(alloc: Global, text: &str) -> Result<MethodId, TextFault>
     ensures found { IfOk result (λ m. IsEntry m × (text.now ≡ entry_spelling m)) }
     ensures bad { (place : ℕ) → result ≡ Err (TextFault.Bad place)
         → (m : MethodId) → IsEntry m → text.now ≡ entry_spelling m → ⊥ }
+    ensures place { (place : ℕ) → result ≡ Err (TextFault.Bad place) → StopsAt IsEntryText text.now place }
 {
     let bytes = text.as_bytes();
-    let Some((class, after_class)) = cut(bytes, b'.') else {
-        return Err(TextFault::Bad(bytes.len() as u64));
+    let Some((class, method)) = cut(bytes, b'.') else {
+        return Err(TextFault::Bad(spelled_front(Form::ClassName, bytes) as u64));
     };
-    let Some((name, desc)) = cut(after_class, b':') else {
-        return Err(TextFault::Bad(bytes.len() as u64));
-    };
-    let name_place = (bytes.len() - after_class.len()) as u64;
-    let desc_place = (bytes.len() - desc.len()) as u64;
-    let class = class_of(alloc, class, 0)?;
-    let name = method_name_of(alloc, name, name_place)?;
-    let desc = descriptor_of(alloc, desc, desc_place)?;
+    let method_place = class.len() as u64 + 1;
+    let class = part_of(alloc, Form::ClassName, class, 0)?;
+    let (name, desc) = read_method(alloc, method, method_place)?;
     Ok(MethodId { class, name, desc })
 }
 

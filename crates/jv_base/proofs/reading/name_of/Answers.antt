@@ -12,12 +12,11 @@ pub loop-rest-init : goal.loop-rest-init
 loop-rest-init c = record {
   unicode = subst (λ (n : List ℕ). IsUtf8 n) (sym c.new-name.ensures) IsUtf8-nil;
   read = sym (ap (λ (t : List ℕ). t ++ c.args.text.now) (ap name_text c.new-name.ensures ∙ name_text-nil));
-  within = omega arith;
 }
 
-pub returns-in_default-clause-bad : goal.returns-in_default-clause-bad
-returns-in_default-clause-bad c =
-    λ at e n u k.
+pub returns-in_default-clause-none : goal.returns-in_default-clause-none
+returns-in_default-clause-none c =
+    λ n u k.
     let not_empty = eqb-false (length c.loop-rest.rest.now) 0 (sym c.is_empty.ensures ∙ c.loop-rest-test.true) in
     let some : 0 < length c.loop-rest.rest.now = omega (arith, not_empty) in
     no_name c.args.text.now c.loop-rest.name c.loop-rest.rest.now c.loop-rest.invariant.unicode c.loop-rest.invariant.read some c.in_default.ensures.none n u k
@@ -33,5 +32,4 @@ loop-rest-preserved c =
       unicode = subst (λ (n : List ℕ). IsUtf8 n) (sym pushed) (IsUtf8-more name character c.loop-rest.invariant.unicode scalar);
       read = c.loop-rest.invariant.read ∙ ap (λ (t : List ℕ). name_text name ++ t) c.in-Some.ensures.found.1 ∙ sym (append_assoc (name_text name) (character_text character) after)
           ∙ ap (λ (t : List ℕ). t ++ after) (sym (name_text-more name character c.loop-rest.invariant.unicode scalar)) ∙ ap (λ (n : List ℕ). name_text n ++ after) (sym pushed);
-      within = omega (arith, c.in-Some.ensures.shorter, c.loop-rest.invariant.within);
     }

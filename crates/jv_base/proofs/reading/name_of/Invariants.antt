@@ -1,5 +1,5 @@
 -- The name is what was read, and what is left gets shorter.
-use Rattle.std.proofs.Common.{◌≡◌, ◌++◌, ◌≤◌, length}
+use Rattle.std.proofs.Common.{◌≡◌, ◌++◌, length}
 use Rattle.std.specs.Str.{IsUtf8}
 use Rattle.jv_base.specs.Spelling.{name_text}
 use Rattle.jv_base.proofs.reading.name_of.Given as goal
@@ -8,7 +8,6 @@ abbrev pub invariant-loop-rest : goal.invariant-loop-rest
 invariant-loop-rest l = record {
   unicode : IsUtf8 l.name;
   read : l.text ≡ name_text l.name ++ l.rest;
-  within : length l.rest ≤ length l.text;
 }
 
 abbrev pub decreases-loop-rest : goal.decreases-loop-rest
