@@ -1,0 +1,12 @@
+pub mod CodeLaws
+pub mod Decodings
+pub mod Fronts
+pub mod InstrOne
+pub mod InstrRead
+pub mod InstrSizes
+pub mod Lengths
+pub mod Members
+pub mod OneSize
+pub mod PairOrder
+pub mod Tables
+pub mod Ways

@@ -1,0 +1,25 @@
+-- What holds of all bytes.
+use Rattle.std.specs.Prelude.{◌≡◌, ◌⊎◌, ◌<◌, ◌^◌, ℕ, List, ◌++◌, length}
+use Rattle.cf_code.specs.declared.code.Placed.{Placed}
+use Rattle.cf_code.specs.declared.instr.Instr.{Instr}
+use Rattle.cf_code.specs.Instr.{IsInstr}
+use Rattle.cf_code.specs.Sizes.{HasSize}
+use Rattle.cf_code.specs.Decoding.{IsCode, HasBadOpcode, HasBadTarget}
+
+-- the bytes of an instruction have its size, whatever follows them
+abbrev pub HasItsSize : Type 0
+HasItsSize = (pc : ℕ) (bytes rest : List ℕ) (instr : Instr) → IsInstr pc bytes instr → HasSize pc (bytes ++ rest) (length bytes)
+
+-- as many bytes as the code of a method may have (4.7.3) are one list of instructions at most
+abbrev pub IsOneCode : Type 0
+IsOneCode = (bytes : List ℕ) (code other : List Placed) → length bytes < 2 ^ 16 → IsCode bytes code → IsCode bytes other → code ≡ other
+
+-- bytes with a fault are no code
+abbrev pub IsNoCode : Type 0
+IsNoCode = (bytes : List ℕ) (pc : ℕ) (code : List Placed) → HasBadOpcode bytes pc ⊎ HasBadTarget bytes pc → IsCode bytes code → ⊥
+
+-- bytes have one fault at most
+pub record IsOneFault : Type 0 where
+  pub opcode : (bytes : List ℕ) (a b : ℕ) → HasBadOpcode bytes a → HasBadOpcode bytes b → a ≡ b
+  pub target : (bytes : List ℕ) (a b : ℕ) → HasBadTarget bytes a → HasBadTarget bytes b → a ≡ b
+  pub both : (bytes : List ℕ) (a b : ℕ) → HasBadOpcode bytes a → HasBadTarget bytes b → ⊥

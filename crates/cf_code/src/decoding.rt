@@ -1,0 +1,130 @@
+// The code of a method as a list of instructions, or the first place where it is none.
+ghost use Rattle.std.specs.Prelude.{◌≡◌, ◌^◌, ◌<◌, ◌↔◌, ℕ, IsTrue, IfOk, IfSome, Ok, Err, Some, Contains, length, take};
+ghost use Rattle.std.specs.List.{AllByRecursion};
+ghost use Rattle.cf_code.specs.Instr.{IsInstr};
+ghost use Rattle.cf_code.specs.Sizes.{HasSize};
+ghost use Rattle.cf_code.specs.Starts.{Ascends, IsOnlyInstr};
+ghost use Rattle.cf_code.specs.Decoding.{HasStarts, HasTargets, IsCode, HasBadOpcode, HasBadTarget};
+
+use crate::code::Placed;
+use crate::instr::{Instr, read_instr};
+use crate::size::instr_size;
+use crate::target::targets;
+use jv_base::{List, Mem};
+use std::alloc::Global;
+use thiserror::Error;
+
+/// Why bytes are no code, with the pc of the instruction at fault (JVM Specification SE 8, 4.9.1).
+#[derive(Clone, Copy, Debug, PartialEq, Eq, Error)]
+pub enum CodeFault {
+    /// No instruction begins there: the opcode is above 201, `wide` stands before an instruction that has no wide form,
+    /// or the instruction passes the end.
+    #[error("no instruction at {0}")]
+    BadOpcode(u16),
+    /// A target is no instruction's first byte, the least key of a table is above its greatest, or keys do not rise.
+    #[error("bad target at {0}")]
+    BadTarget(u16),
+    #[error("no memory")]
+    NoMemory,
+}
+
+/// The pcs at which the instructions begin, by their sizes alone, and where the next would: the length of the bytes, or the
+/// first pc at which there is none.
+fn starts_of(alloc: Global, bytes: &[u8]) -> Mem<(Vec<u16>, u16)>
+    requires { length bytes.now < 2 ^ 16 }
+    ensures { IfOk result (λ r. HasStarts bytes.now r.0.items r.1) }
+{
+    let mut starts = Vec::new(alloc);
+    let mut pc = 0;
+    while let Some(size) = instr_size(pc, &bytes[usize::from(pc)..]) {
+        starts.push(pc)?;
+        pc += size as u16;
+    }
+    Ok((starts, pc))
+}
+
+/// Whether an instruction begins at a target.
+fn is_start(starts: &[u16], target: u16) -> bool
+    requires { Ascends starts.now }
+    ensures { IsTrue result ↔ Contains starts.now target }
+{
+    starts.binary_search(&target).is_ok()
+}
+
+/// Whether an instruction begins at each target.
+fn are_starts(starts: &[u16], targets: &[u16]) -> bool
+    requires { Ascends starts.now }
+    ensures { IsTrue result ↔ AllByRecursion (λ target. Contains starts.now target) targets.now }
+{
+    for target in targets {
+        if !is_start(starts, *target) {
+            return false;
+        }
+    }
+    true
+}
+
+/// The instruction that these bytes are at a pc, all of them, where each of its targets is a start.
+fn read_placed(alloc: Global, starts: &[u16], pc: u16, bytes: &[u8]) -> Mem<Option<Instr>>
+    requires { Ascends starts.now }
+    ensures found { IfOk result (λ o. IfSome o (λ i. IsInstr pc bytes.now i × HasTargets starts.now i)) }
+    ensures only { (i : Instr) → IsInstr pc bytes.now i → HasTargets starts.now i → IfOk result (λ o. o ≡ Some i) }
+{
+    let Some(instr) = read_instr(alloc, pc, bytes)? else {
+        return Ok(None);
+    };
+    let targets = targets(alloc, &instr)?;
+    if are_starts(starts, targets.as_slice()) {
+        Ok(Some(instr))
+    } else {
+        Ok(None)
+    }
+}
+
+/// The instruction at the front of the bytes, whose opcode is at a pc, where each of its targets is a start.
+fn next_placed(alloc: Global, starts: &[u16], pc: u16, bytes: &[u8]) -> Mem<Option<Instr>>
+    requires { Ascends starts.now }
+    ensures found { IfOk result (λ o. IfSome o (λ i. IsOnlyInstr starts.now pc bytes.now i)) }
+    ensures only { (size : ℕ) (i : Instr) → HasSize pc bytes.now size → IsInstr pc (take size bytes.now) i → HasTargets starts.now i → IfOk result (λ o. o ≡ Some i) }
+{
+    match instr_size(pc, bytes) {
+        Some(size) => read_placed(alloc, starts, pc, &bytes[..size]),
+        None => Ok(None),
+    }
+}
+
+/// The instructions that the bytes of a method's code are, or their first fault.
+fn read_code(alloc: Global, bytes: &[u8]) -> Mem<Result<List<Placed>, CodeFault>>
+    requires { length bytes.now < 2 ^ 16 }
+    ensures found { IfOk result (λ r. IfOk r (λ code. IsCode bytes.now code)) }
+    ensures opcode { (pc : ℕ) → result ≡ Ok (Err (CodeFault.BadOpcode pc)) → HasBadOpcode bytes.now pc }
+    ensures target { (pc : ℕ) → result ≡ Ok (Err (CodeFault.BadTarget pc)) → HasBadTarget bytes.now pc }
+{
+    let (starts, stop) = starts_of(alloc, bytes)?;
+    let mut code = Vec::new(alloc);
+    for pc in &starts {
+        let rest = &bytes[usize::from(*pc)..];
+        let Some(instr) = next_placed(alloc, &starts, *pc, rest)? else {
+            return Ok(Err(CodeFault::BadTarget(*pc)));
+        };
+        code.push(Placed { pc: *pc, instr })?;
+    }
+    if usize::from(stop) < bytes.len() {
+        return Ok(Err(CodeFault::BadOpcode(stop)));
+    }
+    Ok(Ok(List::from_vec(code)))
+}
+
+/// The instructions that the bytes of a method's code are. A fault is the first one from the left: each byte list is code
+/// or has exactly one fault.
+pub fn decode(alloc: Global, bytes: &[u8]) -> Result<List<Placed>, CodeFault>
+    requires { length bytes.now < 2 ^ 16 }
+    ensures found { IfOk result (λ code. IsCode bytes.now code) }
+    ensures opcode { (pc : ℕ) → result ≡ Err (CodeFault.BadOpcode pc) → HasBadOpcode bytes.now pc }
+    ensures target { (pc : ℕ) → result ≡ Err (CodeFault.BadTarget pc) → HasBadTarget bytes.now pc }
+{
+    match read_code(alloc, bytes) {
+        Ok(answer) => answer,
+        Err(_) => Err(CodeFault::NoMemory),
+    }
+}

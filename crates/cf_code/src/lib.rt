@@ -1,0 +1,45 @@
+//! The instructions of the Java Virtual Machine: their bytes, where each can go on, and what faults each can raise.
+#![tactic(auto)]
+
+mod array;
+mod call;
+mod code;
+mod constant;
+mod decoding;
+mod field;
+mod instr;
+mod jump;
+mod kind_set;
+mod law;
+mod length;
+mod local;
+mod number;
+mod object;
+mod size;
+mod stack;
+mod switch;
+mod table;
+mod target;
+#[cfg(test)]
+mod tests;
+mod transfer;
+mod word;
+
+pub use array::{Array, Element};
+pub use call::Call;
+pub use code::{Placed, encode};
+pub use constant::Constant;
+pub use decoding::{CodeFault, decode};
+pub use field::{Field, FieldUse};
+pub use instr::{Instr, put_instr, read_instr};
+pub use jump::{Condition, Equality, Jump};
+pub use kind_set::{KindSet, kinds};
+pub use law::{no_code, one_code, one_fault, one_size};
+pub use local::{Local, LocalIndex};
+pub use number::{ArithOp, BitOp, Comparison, Conversion, Num, Number, ShiftOp, Whole};
+pub use object::Object;
+pub use size::instr_size;
+pub use stack::StackMove;
+pub use switch::{Case, LookupSwitch, TableSwitch};
+pub use transfer::{Row, transfers};
+pub use word::{Returned, Word};
