@@ -9,7 +9,7 @@ use Rattle.cf_code.specs.Instr.{spelling, Fits, IsInstr}
 use Rattle.cf_code.specs.Code.{code_spelling, AllFit}
 use Rattle.cf_code.specs.Sizes.{wide_size, fixed_size, HasOperands, HasSize}
 use Rattle.cf_code.specs.Decoding.{IsLaid, pcs, HasTargets, IsCode, FallsInto, HasStarts, IsGood, HasBadOpcode, HasBadTarget}
-use Rattle.cf_code.specs.Starts.{Ascends, IsOnlyInstr}
+use Rattle.cf_code.specs.Starts.{IsOnlyInstr}
 
 -- ---- sizes
 
@@ -79,9 +79,6 @@ falls_ascends bytes pc (s ∷ ss) stop f zero (suc j) le l =
     let rest = falls_at bytes (pc + f.1.0) ss stop j 0 f.1.2 (omega arith) in omega (arith, f.0, rest.0)
 falls_ascends bytes pc (s ∷ ss) stop f (suc i) zero le l = absurd (omega arith)
 falls_ascends bytes pc (s ∷ ss) stop f (suc i) (suc j) le l = falls_ascends bytes (pc + f.1.0) ss stop f.1.2 i j (omega arith) (omega arith)
-
-pub starts_ascend : (bytes starts : List ℕ) (stop : ℕ) → HasStarts bytes starts stop → Ascends starts
-starts_ascend bytes starts stop has i j le l = falls_ascends bytes 0 starts stop has.falls i j le l
 
 pub start_inside : (bytes starts : List ℕ) (stop i d : ℕ) → HasStarts bytes starts stop → i < length starts → get_or starts i d < length bytes
 start_inside bytes starts stop i d has l = (falls_at bytes 0 starts stop i d has.falls l).1
@@ -203,11 +200,11 @@ pub bad_opcode : (bytes starts : List ℕ) (stop : ℕ) (ps : List Placed) → H
 bad_opcode bytes starts stop ps has inside h = record { starts = starts; has = has; inside = inside; good = places_good bytes starts starts ps h }
 
 -- an earlier start is at a lesser index
-earlier_index : (starts : List ℕ) (j k early pc : ℕ) → Ascends starts → j < length starts → get_or starts j early ≡ early → k < length starts → pc ≡ get_or starts k pc → early < pc → j < k
-earlier_index starts j k early pc ascends jl je kl ke lt =
+earlier_index : (bytes starts : List ℕ) (stop j k early pc : ℕ) → HasStarts bytes starts stop → j < length starts → get_or starts j early ≡ early → k < length starts → pc ≡ get_or starts k pc → early < pc → j < k
+earlier_index bytes starts stop j k early pc has jl je kl ke lt =
     elim (cases_lt j k) [
       | inl less ↦ less
-      | inr le ↦ absurd (omega (arith, ascends k j le jl, je, ke, lt, get_or_default starts j early 0 jl, get_or_default starts k pc 0 kl))
+      | inr le ↦ absurd (omega (arith, falls_ascends bytes 0 starts stop has.falls k j le jl, je, ke, lt, get_or_default starts j early 0 jl, get_or_default starts k pc 0 kl))
     ]
 
 -- the start behind the good ones is not
@@ -219,7 +216,7 @@ bad_target bytes starts stop k pc ps has kl ke h bad = record {
   is_start = (k, kl, sym ke);
   bad = bad;
   good = λ early is lt.
-      let jk = earlier_index starts is.0 k early pc (starts_ascend bytes starts stop has) is.1 is.2 kl ke lt in
+      let jk = earlier_index bytes starts stop is.0 k early pc has is.1 is.2 kl ke lt in
       let good = all_at (IsGood bytes starts) (take k starts) is.0 early (places_good bytes starts (take k starts) ps h) (omega (arith, jk, length-take-le k starts (omega arith))) in
       subst (λ (n : ℕ). IsGood bytes starts n) (get_or-take k starts is.0 early jk ∙ is.2) good;
 }

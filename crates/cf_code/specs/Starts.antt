@@ -1,13 +1,14 @@
 -- What decoding needs of the pcs at which instructions begin.
-use Rattle.std.specs.Prelude.{◌≡◌, ◌<◌, ◌≤◌, ℕ, List, length, take, slice_index}
+use Rattle.std.specs.Prelude.{◌≡◌, ℕ, Bool, false, List, take, slice_index_or, nat_eq}
+use Rattle.std.specs.List.{list_any}
 use Rattle.cf_code.specs.declared.instr.Instr.{Instr}
 use Rattle.cf_code.specs.Instr.{IsInstr}
 use Rattle.cf_code.specs.Sizes.{HasSize}
 use Rattle.cf_code.specs.Decoding.{HasTargets}
 
--- none is above a later one
-abbrev pub Ascends : List ℕ → Type 0
-Ascends starts = (i j : ℕ) → i ≤ j → j < length starts → slice_index starts i ≤ slice_index starts j
+-- of each byte, whether an instruction begins there
+abbrev pub Marks : List Bool → List ℕ → Type 0
+Marks marks starts = (at : ℕ) → slice_index_or marks at false ≡ list_any (nat_eq at) starts
 
 -- the instruction at the front of the bytes, of the one size that it has, whose targets are starts
 pub record IsOnlyInstr (starts : List ℕ) (pc : ℕ) (bytes : List ℕ) (instr : Instr) : Type 0 where

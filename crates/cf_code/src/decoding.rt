@@ -1,9 +1,9 @@
 // The code of a method as a list of instructions, or the first place where it is none.
-ghost use Rattle.std.specs.Prelude.{◌≡◌, ◌^◌, ◌<◌, ◌↔◌, ℕ, IsTrue, IfOk, IfSome, Ok, Err, Some, Contains, length, take};
+ghost use Rattle.std.specs.Prelude.{◌≡◌, ◌^◌, ◌<◌, ◌↔◌, ℕ, IsTrue, IfOk, IfSome, Ok, Err, Some, All, Contains, length, take};
 ghost use Rattle.std.specs.List.{AllByRecursion};
 ghost use Rattle.cf_code.specs.Instr.{IsInstr};
 ghost use Rattle.cf_code.specs.Sizes.{HasSize};
-ghost use Rattle.cf_code.specs.Starts.{Ascends, IsOnlyInstr};
+ghost use Rattle.cf_code.specs.Starts.{Marks, IsOnlyInstr};
 ghost use Rattle.cf_code.specs.Decoding.{HasStarts, HasTargets, IsCode, HasBadOpcode, HasBadTarget};
 
 use crate::code::Placed;
@@ -43,18 +43,40 @@ fn starts_of(alloc: Global, bytes: &[u8]) -> Mem<(Vec<u16>, u16)>
     Ok((starts, pc))
 }
 
-/// Whether an instruction begins at a target.
-fn is_start(starts: &[u16], target: u16) -> bool
-    requires { Ascends starts.now }
-    ensures { IsTrue result ↔ Contains starts.now target }
+/// The pcs at which instructions begin, and for each byte whether one begins there.
+#[derive(Drop)]
+struct Starts {
+    pcs: Vec<u16>,
+    marks: Vec<bool>,
+    ghost marked: { Marks marks.items pcs.items },
+}
+
+/// The starts, with a mark for each of so many bytes.
+fn marks_of(alloc: Global, pcs: Vec<u16>, count: usize) -> Mem<Starts>
+    requires { All (λ pc. pc < count) pcs.items }
+    ensures { IfOk result (λ starts. starts.pcs.items ≡ pcs.items) }
 {
-    starts.binary_search(&target).is_ok()
+    let mut marks = vec![in alloc; false; count]?;
+    for pc in &pcs {
+        marks[usize::from(*pc)] = true;
+    }
+    Ok(Starts { pcs, marks })
+}
+
+/// Whether an instruction begins at a target.
+fn is_start(starts: &Starts, target: u16) -> bool
+    ensures { IsTrue result ↔ Contains starts.now.pcs.items target }
+{
+    starts
+        .marks
+        .get(usize::from(target))
+        .copied()
+        .unwrap_or(false)
 }
 
 /// Whether an instruction begins at each target.
-fn are_starts(starts: &[u16], targets: &[u16]) -> bool
-    requires { Ascends starts.now }
-    ensures { IsTrue result ↔ AllByRecursion (λ target. Contains starts.now target) targets.now }
+fn are_starts(starts: &Starts, targets: &[u16]) -> bool
+    ensures { IsTrue result ↔ AllByRecursion (λ target. Contains starts.now.pcs.items target) targets.now }
 {
     for target in targets {
         if !is_start(starts, *target) {
@@ -65,10 +87,9 @@ fn are_starts(starts: &[u16], targets: &[u16]) -> bool
 }
 
 /// The instruction that these bytes are at a pc, all of them, where each of its targets is a start.
-fn read_placed(alloc: Global, starts: &[u16], pc: u16, bytes: &[u8]) -> Mem<Option<Instr>>
-    requires { Ascends starts.now }
-    ensures found { IfOk result (λ o. IfSome o (λ i. IsInstr pc bytes.now i × HasTargets starts.now i)) }
-    ensures only { (i : Instr) → IsInstr pc bytes.now i → HasTargets starts.now i → IfOk result (λ o. o ≡ Some i) }
+fn read_placed(alloc: Global, starts: &Starts, pc: u16, bytes: &[u8]) -> Mem<Option<Instr>>
+    ensures found { IfOk result (λ o. IfSome o (λ i. IsInstr pc bytes.now i × HasTargets starts.now.pcs.items i)) }
+    ensures only { (i : Instr) → IsInstr pc bytes.now i → HasTargets starts.now.pcs.items i → IfOk result (λ o. o ≡ Some i) }
 {
     let Some(instr) = read_instr(alloc, pc, bytes)? else {
         return Ok(None);
@@ -82,10 +103,9 @@ fn read_placed(alloc: Global, starts: &[u16], pc: u16, bytes: &[u8]) -> Mem<Opti
 }
 
 /// The instruction at the front of the bytes, whose opcode is at a pc, where each of its targets is a start.
-fn next_placed(alloc: Global, starts: &[u16], pc: u16, bytes: &[u8]) -> Mem<Option<Instr>>
-    requires { Ascends starts.now }
-    ensures found { IfOk result (λ o. IfSome o (λ i. IsOnlyInstr starts.now pc bytes.now i)) }
-    ensures only { (size : ℕ) (i : Instr) → HasSize pc bytes.now size → IsInstr pc (take size bytes.now) i → HasTargets starts.now i → IfOk result (λ o. o ≡ Some i) }
+fn next_placed(alloc: Global, starts: &Starts, pc: u16, bytes: &[u8]) -> Mem<Option<Instr>>
+    ensures found { IfOk result (λ o. IfSome o (λ i. IsOnlyInstr starts.now.pcs.items pc bytes.now i)) }
+    ensures only { (size : ℕ) (i : Instr) → HasSize pc bytes.now size → IsInstr pc (take size bytes.now) i → HasTargets starts.now.pcs.items i → IfOk result (λ o. o ≡ Some i) }
 {
     match instr_size(pc, bytes) {
         Some(size) => read_placed(alloc, starts, pc, &bytes[..size]),
@@ -100,9 +120,10 @@ fn read_code(alloc: Global, bytes: &[u8]) -> Mem<Result<List<Placed>, CodeFault>
     ensures opcode { (pc : ℕ) → result ≡ Ok (Err (CodeFault.BadOpcode pc)) → HasBadOpcode bytes.now pc }
     ensures target { (pc : ℕ) → result ≡ Ok (Err (CodeFault.BadTarget pc)) → HasBadTarget bytes.now pc }
 {
-    let (starts, stop) = starts_of(alloc, bytes)?;
+    let (pcs, stop) = starts_of(alloc, bytes)?;
+    let starts = marks_of(alloc, pcs, bytes.len())?;
     let mut code = Vec::new(alloc);
-    for pc in &starts {
+    for pc in &starts.pcs {
         let rest = &bytes[usize::from(*pc)..];
         let Some(instr) = next_placed(alloc, &starts, *pc, rest)? else {
             return Ok(Err(CodeFault::BadTarget(*pc)));

@@ -1,24 +1,16 @@
-use Rattle.std.proofs.Common.{◌≡◌, inl, inr, ◌<◌, ◌≤◌, ℕ, IsTrue, Result, Ok, Err, Contains, List, length, get_or, refl, sym, ◌∙◌, arith}
-use Rattle.std.specs.Result.{MatchResult, is_ok}
-use Rattle.std.proofs.lemmas.Bool.{false≢true, cases_lt}
-use Rattle.std.proofs.lemmas.List.{get_or_default}
-use Rattle.std.proofs.lemmas.List.Sorted.{searched}
+use Rattle.std.proofs.Common.{◌≡◌, ℕ, Bool, false, Option, List, get_or, sym, ap, ◌∙◌, arith, eqb-true}
+use Rattle.std.specs.Prelude.{nat_eq}
+use Rattle.std.specs.Cmp.{nat_eq_equiv}
+use Rattle.std.specs.List.{list_any}
+use Rattle.std.specs.Option.{unwrap_or}
+use Rattle.std.proofs.lemmas.Map.Views.{Contains-from_any, list_any-from_Contains}
 use Rattle.cf_code.proofs.decoding.is_start.Goals as goal
-
--- a search finds what the list contains
-found_contained : (xs : List ℕ) (x : ℕ) (r : Result ℕ ℕ) → MatchResult r (λ i. (i < length xs) × (get_or xs i 0 ≡ x)) (λ i. (i ≤ length xs) × ((k : ℕ) → k < i → get_or xs k 0 < x) × ((k : ℕ) → i ≤ k → k < length xs → x < get_or xs k 0)) → (IsTrue (is_ok r) → Contains xs x) × (Contains xs x → IsTrue (is_ok r))
-found_contained xs x (Ok i) h = (λ t. (i, h.0, get_or_default xs i x 0 h.0 ∙ h.1), λ found. refl)
-found_contained xs x (Err i) h = (
-  λ t. absurd (false≢true t),
-  λ found. absurd (elim (cases_lt found.0 i) [
-    | inl below ↦ omega (arith, h.1 found.0 below, found.2, get_or_default xs found.0 x 0 found.1)
-    | inr above ↦ omega (arith, h.2 found.0 above found.1, found.2, get_or_default xs found.0 x 0 found.1)
-  ]),
-)
 
 pub returns : goal.returns
 returns c =
-    let xs = c.args.starts.now in
-    let x = c.args.target in
-    let both = found_contained xs x c.binary_search.result (searched xs x c.binary_search.result c.binary_search.ensures.position c.requires) in
-    (λ t. both.0 (sym c.is_ok.ensures.value ∙ t), λ found. c.is_ok.ensures.value ∙ both.1 found)
+    let starts = c.args.starts.now in
+    let at = c.args.target in
+    let found = c.get.ensures.lookup.4 (omega arith) false in
+    let marked : c.unwrap_or.result ≡ list_any (nat_eq at) starts.pcs.items =
+    c.unwrap_or.ensures ∙ ap (λ (o : Option Bool). unwrap_or o false) c.copied.ensures ∙ found ∙ ap (λ (bs : List Bool). get_or bs c.from.result false) c.deref.ensures.value ∙ ap (λ (n : ℕ). get_or starts.marks.items n false) c.from.ensures ∙ starts.marked at in
+    (λ t. Contains-from_any eqb-true at starts.pcs.items (sym marked ∙ t), λ contained. marked ∙ list_any-from_Contains nat_eq_equiv at starts.pcs.items contained)
