@@ -1,5 +1,6 @@
 // The code of methods, whole and damaged, by the Specification: 4.9.1, and 6.5 for each instruction.
 use crate::decoding::{CodeFault, decode};
+use crate::law::{no_code, one_code, one_fault, one_size};
 use jv_base::Mem;
 use std::alloc::Global;
 use std::test::Fail;
@@ -240,6 +241,10 @@ fn code_is_decoded(rt: HostRuntime) -> Result<(), Fail> {
     for case in &CASES {
         assert!(rt; is_decoded(rt.alloc(), case)?, "{}", case.text);
     }
+    one_size();
+    one_code();
+    no_code();
+    one_fault();
     Ok(())
 }
 
