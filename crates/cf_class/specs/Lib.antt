@@ -5,3 +5,4 @@ pub mod Walk
 pub mod Views
 pub mod Thin
 pub mod Finds
+pub mod Laws

@@ -1,5 +1,6 @@
 -- What the steps of the check of thin code give.
-use Rattle.std.specs.Prelude.{◌≡◌, ◌≢◌, ◌<◌, ◌≤◌, ◌⊎◌, if◌then◌else◌, ◌&&◌, ℕ, Bool, true, List, [], ◌∷◌, length, slice_get, slice_set, Option, Some, None, option_and_then}
+use Rattle.std.specs.Prelude.{◌≡◌, ◌≢◌, ◌<◌, ◌≤◌, ◌⊎◌, if◌then◌else◌, ◌&&◌, ℕ, Bool, true, List, [], ◌∷◌, length}
+use Rattle.std.specs.Prelude.{slice_get, slice_set, Option, Some, None, option_and_then}
 use Rattle.cf_class.specs.declared.shape.Shape.{Shape}
 use Rattle.cf_class.specs.declared.shape.Limits.{Limits}
 use Rattle.cf_class.specs.declared.instr.ThinInstr.{ThinInstr}
@@ -63,9 +64,11 @@ Covers found shapes = (pc : ℕ) (shape : Shape) → shape_at found pc ≡ Some 
 -- the shapes that are found fit, and those below a pc flow
 pub record IsSound (code : List ℕ) (limits : Limits) (found : List (Option Shape)) (pc : ℕ) : Type 0 where
   pub long : length found ≡ length code
-  pub entry : (shape : Shape) × (shape_at found 0 ≡ Some shape) × (shape.locals ≡ entry_locals limits.params limits.max_locals) × (shape.stack ≡ [])
+  pub entry : (shape : Shape) × (shape_at found 0 ≡ Some shape)
+      × (shape.locals ≡ entry_locals limits.params limits.max_locals) × (shape.stack ≡ [])
   pub fits : (at : ℕ) (shape : Shape) → shape_at found at ≡ Some shape → Fits code limits at shape
-  pub flows : (at : ℕ) (shape : Shape) → at < pc → shape_at found at ≡ Some shape → Flows code limits (shape_at found) at shape
+  pub flows : (at : ℕ) (shape : Shape) → at < pc → shape_at found at ≡ Some shape
+      → Flows code limits (shape_at found) at shape
 
 -- of each byte, whether an instruction begins there
 pub record AreStarts (code : List ℕ) (starts : List Bool) : Type 0 where
@@ -79,7 +82,8 @@ AreWhole code = (pc : ℕ) → IsStart code pc → (instr : ThinInstr) × (next 
 
 -- the jump at a pc goes to where an instruction begins
 abbrev pub IsAimed : List ℕ → ℕ → Type 0
-IsAimed code pc = (next target : ℕ) (instr : ThinInstr) → instr_at code pc ≡ Some (instr, next) → target_of instr ≡ Some target → IsStart code target
+IsAimed code pc = (next target : ℕ) (instr : ThinInstr) → instr_at code pc ≡ Some (instr, next)
+    → target_of instr ≡ Some target → IsStart code target
 
 -- each jump goes to where an instruction begins
 abbrev pub AreAimed : List ℕ → Type 0
@@ -87,7 +91,8 @@ AreAimed code = (pc : ℕ) → IsStart code pc → IsAimed code pc
 
 -- where the next instruction begins, when a pc is passed
 abbrev pub GoesOn : List ℕ → ℕ → ℕ → ℕ → Type 0
-GoesOn code pc next after = ((pc ≢ next) × (after ≡ next)) ⊎ ((pc ≡ next) × (instr : ThinInstr) × (instr_at code pc ≡ Some (instr, after)))
+GoesOn code pc next after =
+    ((pc ≢ next) × (after ≡ next)) ⊎ ((pc ≡ next) × (instr : ThinInstr) × (instr_at code pc ≡ Some (instr, after)))
 
 -- the pc behind an instruction, where it may be next
 abbrev pub fall_of : ThinInstr → ℕ → Option ℕ
@@ -95,9 +100,11 @@ fall_of instr next = if falls_through instr then Some next else None
 
 -- a shape is put at one pc, and then at another
 abbrev pub FlowsTo : List (Option Shape) → Shape → Option ℕ → Option ℕ → List (Option Shape) → Type 0
-FlowsTo old shape first second new = (between : List (Option Shape)) × LeadsToAny old shape first between × LeadsToAny between shape second new
+FlowsTo old shape first second new = (between : List (Option Shape)) × LeadsToAny old shape first between
+    × LeadsToAny between shape second new
 
 -- a shape cannot be put at one pc, or then not at another
 abbrev pub CannotFlow : List (Option Shape) → Shape → Option ℕ → Option ℕ → Type 0
 CannotFlow old shape first second =
-    RefusesAny old shape first ⊎ ((between : List (Option Shape)) × LeadsToAny old shape first between × RefusesAny between shape second)
+    RefusesAny old shape first ⊎ ((between : List (Option Shape)) × LeadsToAny old shape first between
+    × RefusesAny between shape second)

@@ -1,10 +1,12 @@
 -- Which bytes are thin code, as the JVM Specification SE 8 says it: the static constraints of 4.9.1, and the shapes of
 -- the frame that 4.10 wants at each instruction.
-use Rattle.std.specs.Prelude.{◌≡◌, ◌-◌, ◌<◌, ◌≤◌, ◌⊎◌, ℕ, Bool, true, false, List, [], ◌∷◌, ◌++◌, length, replicate, slice_get, slice_set, Option, Some, None}
+use Rattle.std.specs.Prelude.{◌≡◌, ◌-◌, ◌<◌, ◌≤◌, ◌⊎◌, ℕ, Bool, true, false, List, [], ◌∷◌, ◌++◌, length, replicate}
+use Rattle.std.specs.Prelude.{slice_get, slice_set, Option, Some, None}
 use Rattle.cf_class.specs.declared.instr.ThinInstr.{ThinInstr}
-use Rattle.cf_class.specs.declared.instr.ThinInstr.TheVariants.{AconstNull, Iconst, Iload, Istore, Ixor, Ifeq, Ifne, IfIcmpeq, IfIcmpne, Goto, Ireturn, Return, Athrow}
-use Rattle.cf_class.specs.declared.shape.Operand.{Operand}
-use Rattle.cf_class.specs.declared.shape.Operand.TheVariants.{Int, Reference}
+use Rattle.cf_class.specs.declared.instr.ThinInstr.TheVariants.{AconstNull, Iconst, Iload, Istore, Ixor, Ifeq, Ifne}
+use Rattle.cf_class.specs.declared.instr.ThinInstr.TheVariants.{IfIcmpeq, IfIcmpne, Goto, Ireturn, Return, Athrow}
+use Rattle.cf_class.specs.declared.shape.OperandType.{OperandType}
+use Rattle.cf_class.specs.declared.shape.OperandType.TheVariants.{Int, Reference}
 use Rattle.cf_class.specs.declared.shape.Shape.{Shape}
 use Rattle.cf_class.specs.declared.shape.Limits.{Limits}
 use Rattle.cf_class.specs.Instr.{instr_at}
@@ -12,7 +14,8 @@ use Rattle.cf_class.specs.Instr.{instr_at}
 -- an instruction begins at this pc: the first at 0, and each other where the instruction before it ends (4.9.1)
 pub data IsStart (code : List ℕ) : ℕ → Type 0 where
   First : IsStart code 0
-  Next : (pc next : ℕ) (instr : ThinInstr) → IsStart code pc → instr_at code pc ≡ Some (instr, next) → next < length code → IsStart code next
+  Next : (pc next : ℕ) (instr : ThinInstr) → IsStart code pc → instr_at code pc ≡ Some (instr, next)
+      → next < length code → IsStart code next
 
 -- where an instruction jumps to
 abbrev pub target_of : ThinInstr → Option ℕ
@@ -35,10 +38,11 @@ falls_through instr = true
 pub record HasInstrs (code : List ℕ) : Type 0 where
   pub filled : 0 < length code
   pub whole : (pc : ℕ) → IsStart code pc → (instr : ThinInstr) × (next : ℕ) × (instr_at code pc ≡ Some (instr, next))
-  pub aimed : (pc next target : ℕ) (instr : ThinInstr) → IsStart code pc → instr_at code pc ≡ Some (instr, next) → target_of instr ≡ Some target → IsStart code target
+  pub aimed : (pc next target : ℕ) (instr : ThinInstr) → IsStart code pc → instr_at code pc ≡ Some (instr, next)
+      → target_of instr ≡ Some target → IsStart code target
 
 -- what an instruction takes off the operand stack, the top last (6.5, "Operand Stack")
-abbrev pub takes : ThinInstr → List Operand
+abbrev pub takes : ThinInstr → List OperandType
 takes AconstNull = []
 takes (Iconst value) = []
 takes (Iload index) = []
@@ -54,7 +58,7 @@ takes Return = []
 takes Athrow = Reference ∷ []
 
 -- what an instruction leaves on the operand stack (6.5, "Operand Stack")
-abbrev pub leaves : ThinInstr → List Operand
+abbrev pub leaves : ThinInstr → List OperandType
 leaves AconstNull = Reference ∷ []
 leaves (Iconst value) = Int ∷ []
 leaves (Iload index) = Int ∷ []
@@ -62,8 +66,8 @@ leaves Ixor = Int ∷ []
 leaves instr = []
 
 -- what an instruction does to the stack, of which the rest stays
-abbrev pub StackSteps : ThinInstr → List Operand → List Operand → Type 0
-StackSteps instr old new = (rest : List Operand) × (old ≡ rest ++ takes instr) × (new ≡ rest ++ leaves instr)
+abbrev pub StackSteps : ThinInstr → List OperandType → List OperandType → Type 0
+StackSteps instr old new = (rest : List OperandType) × (old ≡ rest ++ takes instr) × (new ≡ rest ++ leaves instr)
 
 -- what an instruction does to the locals: it loads an int that is there, and an int is in what it stores to
 abbrev pub LocalsStep : ThinInstr → List Bool → List Bool → Type 0
@@ -126,7 +130,8 @@ entry_locals params max_locals = replicate params true ++ replicate (max_locals 
 
 -- these shapes meet the rules: the code's end has none, since no instruction begins there
 pub record MeetsRules (code : List ℕ) (limits : Limits) (shapes : Shapes) : Type 0 where
-  pub entry : (shape : Shape) × (shapes 0 ≡ Some shape) × (shape.locals ≡ entry_locals limits.params limits.max_locals) × (shape.stack ≡ [])
+  pub entry : (shape : Shape) × (shapes 0 ≡ Some shape) × (shape.locals ≡ entry_locals limits.params limits.max_locals)
+      × (shape.stack ≡ [])
   pub fits : (pc : ℕ) (shape : Shape) → shapes pc ≡ Some shape → Fits code limits pc shape
   pub flows : (pc : ℕ) (shape : Shape) → shapes pc ≡ Some shape → Flows code limits shapes pc shape
 

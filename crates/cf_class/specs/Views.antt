@@ -8,7 +8,8 @@ use Rattle.cf_class.specs.declared.member.Attribute.{Attribute}
 use Rattle.cf_class.specs.declared.member.Member.{Member}
 use Rattle.cf_class.specs.declared.class_file.ClassFile.{ClassFile}
 use Rattle.cf_class.specs.declared.class_file.Code.{Code}
-use Rattle.cf_class.specs.Walk.{CpInfo, Utf8Info, ClassInfo, WideInfo, OtherInfo, NoInfo, AttributeInfo, MemberInfo, ClassFileInfo, CodeInfo}
+use Rattle.cf_class.specs.Walk.{CpInfo, Utf8Info, ClassInfo, WideInfo, OtherInfo, NoInfo, AttributeInfo, MemberInfo}
+use Rattle.cf_class.specs.Walk.{ClassFileInfo, CodeInfo}
 
 -- A failed reading is one that gives nothing, unless memory ran out.
 abbrev pub Fails : {Y : Type 0} → Refusal → Option Y → Type 0
@@ -34,11 +35,25 @@ attribute_of a = record { name = a.name; content = a.content.now }
 
 -- a field or a method
 abbrev pub member_of : Member → MemberInfo
-member_of m = record { access = m.access; name = m.name; descriptor = m.descriptor; attributes = map attribute_of m.attributes.items }
+member_of m =
+    record {
+      access = m.access;
+      name = m.name;
+      descriptor = m.descriptor;
+      attributes = map attribute_of m.attributes.items;
+    }
 
 -- a class file
 abbrev pub class_file_of : ClassFile → ClassFileInfo
-class_file_of f = record { major = f.major; pool = map info_of f.pool.items; this_class = f.this_class; super_class = f.super_class; interfaces = f.interfaces; methods = map member_of f.methods.items }
+class_file_of f =
+    record {
+      major = f.major;
+      pool = map info_of f.pool.items;
+      this_class = f.this_class;
+      super_class = f.super_class;
+      interfaces = f.interfaces;
+      methods = map member_of f.methods.items;
+    }
 
 -- the content of a Code attribute
 abbrev pub code_of : Code → CodeInfo

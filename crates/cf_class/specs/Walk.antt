@@ -1,5 +1,7 @@
--- The structure of a class file (JVM Specification SE 8, chapter 4): each function answers the value at the front of the bytes and what follows it.
-use Rattle.std.specs.Prelude.{ℕ, zero, suc, ◌-◌, ◌*◌, Bool, true, false, ◌||◌, List, [], ◌∷◌, length, take, drop, Option, Some, None, option_and_then, nat_lt, ◌==◌, if◌then◌else◌}
+-- The structure of a class file (JVM Specification SE 8, chapter 4): each function answers the value at the front of
+-- the bytes and what follows it.
+use Rattle.std.specs.Prelude.{ℕ, zero, suc, ◌-◌, ◌*◌, Bool, true, false, ◌||◌, List, [], ◌∷◌, length, take, drop}
+use Rattle.std.specs.Prelude.{Option, Some, None, option_and_then, nat_lt, ◌==◌, if◌then◌else◌}
 use Rattle.std.specs.Int.{Width, w16, w32, byte_len, from_be_bytes}
 
 infixl 10 ◌>>=◌
@@ -9,7 +11,11 @@ o >>= f = option_and_then f o
 
 -- a number of that width, the most significant byte first (chapter 4: u2, u4)
 abbrev pub number_at : Width → List ℕ → Option (ℕ × List ℕ)
-number_at w bytes = if nat_lt (length bytes) (byte_len w) then None else Some (from_be_bytes w (take (byte_len w) bytes), drop (byte_len w) bytes)
+number_at w bytes =
+    if nat_lt (length bytes) (byte_len w) then None else Some (
+      from_be_bytes w (take (byte_len w) bytes),
+      drop (byte_len w) bytes,
+    )
 
 -- that many bytes
 abbrev pub bytes_at : ℕ → List ℕ → Option (List ℕ × List ℕ)
@@ -23,7 +29,8 @@ many_at item (suc count) bytes = do
   others ← many_at item count first.1
   Some (first.0 ∷ others.0, others.1)
 
--- an entry of the constant pool (4.4): a text, a class by the index of its name, a Long or a Double, any other; and none
+-- an entry of the constant pool (4.4): a text, a class by the index of its name, a Long or a Double, any other; and
+-- none
 pub data CpInfo : Type 0 where
   Utf8Info : List ℕ → CpInfo
   ClassInfo : ℕ → CpInfo
@@ -189,7 +196,15 @@ class_at bytes = do
   fields ← members_at interfaces.1
   methods ← members_at fields.1
   attributes ← attributes_at methods.1
-  if length attributes.1 == 0 then Some (record { major = major.0; pool = pool.0; this_class = this_class.0; super_class = super_class.0; interfaces = interfaces.0; methods = methods.0 }) else None
+  if length attributes.1 == 0 then Some
+      (record {
+        major = major.0;
+        pool = pool.0;
+        this_class = this_class.0;
+        super_class = super_class.0;
+        interfaces = interfaces.0;
+        methods = methods.0;
+      }) else None
 
 -- a whole content of a Code attribute, with nothing after it (4.7.3)
 unfoldable pub code_at : List ℕ → Option CodeInfo
@@ -201,4 +216,5 @@ code_at bytes = do
   handlers ← number_at w16 code.1
   table ← bytes_at (8 * handlers.0) handlers.1
   attributes ← attributes_at table.1
-  if length attributes.1 == 0 then Some (record { max_stack = max_stack.0; max_locals = max_locals.0; code = code.0; handlers = handlers.0 }) else None
+  if length attributes.1 == 0 then Some
+      (record { max_stack = max_stack.0; max_locals = max_locals.0; code = code.0; handlers = handlers.0 }) else None

@@ -5,6 +5,7 @@
 mod class_file;
 mod descriptor;
 mod instr;
+mod laws;
 mod member;
 mod pool;
 mod shape;
@@ -14,8 +15,7 @@ mod thin_code;
 mod walk;
 
 pub use instr::{ThinInstr, thin_instr_at};
+pub use laws::{go_forward, weaker_order};
+pub use shape::{Limits, OperandType, Shape};
 pub use thin::{ThinMethod, read_thin};
 pub use thin_code::is_thin_code;
-
-#[cfg(test)]
-mod tests;

@@ -12,9 +12,9 @@ use ThinInstr::{
 use jv_base::{List, Mem};
 use std::alloc::Global;
 
-/// What is on an operand stack.
+/// The type of a value on an operand stack (JVM Specification SE 8, 4.10.1.2).
 #[derive(Clone, Copy, Debug, PartialEq, Eq, Drop)]
-pub enum Operand {
+pub enum OperandType {
     Int,
     Reference,
 }
@@ -24,7 +24,7 @@ pub enum Operand {
 #[derive(Debug, Drop)]
 pub struct Shape {
     pub locals: List<bool>,
-    pub stack: List<Operand>,
+    pub stack: List<OperandType>,
 }
 
 /// What a method says of its code: the locals that its parameters take, whether it gives an int or nothing, and the
@@ -71,44 +71,39 @@ impl Shape {
             return Ok(None);
         }
         let locals = common_locals(alloc, self.locals.as_slice(), other.locals.as_slice())?;
-        let stack = other.stack.as_slice().to_vec(alloc)?;
-        Ok(Some(Shape {
-            locals,
-            stack: List::from_vec(stack),
-        }))
+        let stack = List::copied(alloc, other.stack.as_slice())?;
+        Ok(Some(Shape { locals, stack }))
     }
 
     pub(crate) fn copy(&self, alloc: Global) -> Mem<Shape>
         ensures { IfOk result (λ copy. copy ≡ self.now) }
     {
-        let locals = self.locals.as_slice().to_vec(alloc)?;
-        let stack = self.stack.as_slice().to_vec(alloc)?;
         Ok(Shape {
-            locals: List::from_vec(locals),
-            stack: List::from_vec(stack),
+            locals: List::copied(alloc, self.locals.as_slice())?,
+            stack: List::copied(alloc, self.stack.as_slice())?,
         })
     }
 }
 
 /// What an instruction takes off the stack, the top last.
-fn takes_of(instr: ThinInstr) -> &'static [Operand]
+fn takes_of(instr: ThinInstr) -> &'static [OperandType]
     ensures { result.now ≡ takes instr }
 {
     match instr {
         AconstNull | Iconst(_) | Iload(_) | Goto(_) | Return => &[],
-        Istore(_) | Ifeq(_) | Ifne(_) | Ireturn => &[Operand::Int],
-        Ixor | IfIcmpeq(_) | IfIcmpne(_) => &[Operand::Int, Operand::Int],
-        Athrow => &[Operand::Reference],
+        Istore(_) | Ifeq(_) | Ifne(_) | Ireturn => &[OperandType::Int],
+        Ixor | IfIcmpeq(_) | IfIcmpne(_) => &[OperandType::Int, OperandType::Int],
+        Athrow => &[OperandType::Reference],
     }
 }
 
 /// What an instruction leaves on the stack.
-fn leaves_of(instr: ThinInstr) -> &'static [Operand]
+fn leaves_of(instr: ThinInstr) -> &'static [OperandType]
     ensures { result.now ≡ leaves instr }
 {
     match instr {
-        AconstNull => &[Operand::Reference],
-        Iconst(_) | Iload(_) | Ixor => &[Operand::Int],
+        AconstNull => &[OperandType::Reference],
+        Iconst(_) | Iload(_) | Ixor => &[OperandType::Int],
         _ => &[],
     }
 }
@@ -125,30 +120,34 @@ fn may_stand(instr: ThinInstr, gives_int: bool) -> bool
 }
 
 /// The stack after an instruction. None where what it takes is not on top.
-fn stack_after(alloc: Global, stack: &[Operand], instr: ThinInstr) -> Mem<Option<List<Operand>>>
-    ensures { IfOk result (λ found. MatchOption found ((new : list_of Operand) → StackSteps instr stack.now new → ⊥) (λ new. StackSteps instr stack.now new)) }
+fn stack_after(
+    alloc: Global,
+    stack: &[OperandType],
+    instr: ThinInstr,
+) -> Mem<Option<List<OperandType>>>
+    ensures { IfOk result (λ found. MatchOption found ((new : list_of OperandType) → StackSteps instr stack.now new → ⊥) (λ new. StackSteps instr stack.now new)) }
 {
     let Some(rest) = stack.strip_suffix(takes_of(instr)) else {
         return Ok(None);
     };
-    let mut after = rest.to_vec(alloc)?;
-    after.extend_from_slice(leaves_of(instr))?;
-    Ok(Some(List::from_vec(after)))
+    let mut after = List::copied(alloc, rest)?;
+    after.extend(leaves_of(instr))?;
+    Ok(Some(after))
 }
 
 /// The locals after an instruction. None where it loads no int, or names a local that there is not.
 fn locals_after(alloc: Global, locals: &[bool], instr: ThinInstr) -> Mem<Option<List<bool>>>
     ensures { IfOk result (λ found. MatchOption found ((new : list_of Bool) → LocalsStep instr locals.now new → ⊥) (λ new. LocalsStep instr locals.now new)) }
 {
-    let mut after = locals.to_vec(alloc)?;
+    let mut after = List::copied(alloc, locals)?;
     match instr {
         Iload(index) if locals.get(usize::from(index)).copied() != Some(true) => Ok(None),
         Istore(index) if usize::from(index) >= locals.len() => Ok(None),
         Istore(index) => {
-            after[usize::from(index)] = true;
-            Ok(Some(List::from_vec(after)))
+            after.set(usize::from(index), true);
+            Ok(Some(after))
         }
-        _ => Ok(Some(List::from_vec(after))),
+        _ => Ok(Some(after)),
     }
 }
 

@@ -169,7 +169,7 @@ fn thin_method(alloc: Global, bytes: &[u8], entry: &MethodId) -> Result<ThinMeth
         return Err(Refusal::Malformed);
     }
     Ok(ThinMethod {
-        code: List::from_vec(code.code.to_vec(alloc)?),
+        code: List::copied(alloc, code.code)?,
         max_locals: code.max_locals,
     })
 }

@@ -16,7 +16,6 @@ pub mod Code
 pub mod Sizes
 pub mod Targets
 pub mod Decoding
-pub mod Starts
 pub mod Transfers
 pub mod Laws
-pub mod Ways
+pub mod Steps

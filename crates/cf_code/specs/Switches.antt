@@ -3,7 +3,7 @@
 use Rattle.std.specs.Prelude.{ℕ, ℤ, pos, ◌+ℤ◌, ◌-ℤ◌, ◌<ℤ◌, ◌-◌, ◌%◌, ◌≡◌, ◌<◌, ◌^◌, List, ◌∷◌, ◌++◌, length}
 use Rattle.std.specs.Int.{w32}
 use Rattle.std.specs.Int.RustNames.{FitsSigned}
-use Rattle.std.specs.List.{flat_map, AllByRecursion, AllAdjacentBelow}
+use Rattle.std.specs.List.{flat_map, All, AllAdjacentBelow}
 use Rattle.cf_code.specs.Bytes.{offset, four, signed_four, IsTwo}
 use Rattle.cf_code.specs.declared.switch.Case.{Case}
 use Rattle.cf_code.specs.declared.switch.TableSwitch.{TableSwitch}
@@ -56,13 +56,13 @@ pub record FitsTableBody (default : ℕ) (low : ℤ) (targets : List ℕ) : Type
   pub low_fits : FitsSigned w32 low
   pub high_fits : FitsSigned w32 (high_key low targets)
   pub some : 0 < length targets
-  pub are_pcs : AllByRecursion IsTwo targets
+  pub are_pcs : All IsTwo targets
 
 -- the keys rise
 pub record FitsLookupBody (default : ℕ) (cases : List Case) : Type 0 where
   pub is_pc : IsTwo default
   pub few : length cases < 2 ^ 32
-  pub all_fit : AllByRecursion FitsCase cases
+  pub all_fit : All FitsCase cases
   pub rise : Rise cases
 
 -- what has a spelling at a pc

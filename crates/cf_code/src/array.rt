@@ -3,7 +3,7 @@ ghost use Rattle.std.specs.Prelude.{◌≡◌, ◌++◌, ◌+◌, ◌<◌, ◌�
 ghost use Rattle.cf_code.specs.Arrays.{array_load_opcode, array_store_opcode, array_spelling, FitsArray};
 
 use crate::table::opcode_table;
-use std::alloc::AllocError;
+use jv_base::Mem;
 
 /// What an array holds, as the loads and stores tell it apart. `Byte` is also for booleans.
 #[derive(Clone, Copy, Debug, PartialEq, Eq)]
@@ -89,7 +89,7 @@ fn numbered_element(number: u8) -> Option<Element>
 }
 
 /// Puts the bytes of the instruction at the end.
-pub(crate) fn put_array(out: &mut Vec<u8>, array: Array) -> Result<(), AllocError>
+pub(crate) fn put_array(out: &mut Vec<u8>, array: Array) -> Mem<()>
     requires { FitsArray array }
     ensures { OnOk result (out.new.items ≡ out.old.items ++ array_spelling array) }
 {
@@ -113,7 +113,7 @@ pub(crate) fn put_array(out: &mut Vec<u8>, array: Array) -> Result<(), AllocErro
 fn element_number(element: Element) -> u8
     ensures load { array_load_opcode element ≡ 46 + result }
     ensures store { array_store_opcode element ≡ 79 + result }
-    ensures few { result < 8 }
+    ensures within { result < 8 }
 {
     element_table!(write element)
 }

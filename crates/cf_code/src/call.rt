@@ -3,7 +3,7 @@ ghost use Rattle.std.specs.Prelude.{◌≡◌, ◌++◌, ◌∷◌, Some, IfSome
 ghost use Rattle.cf_code.specs.Bytes.{two};
 ghost use Rattle.cf_code.specs.Calls.{call_spelling, FitsCall};
 
-use std::alloc::AllocError;
+use jv_base::Mem;
 
 /// An instruction that calls a method, with its index of the constant pool (JVM Specification SE 8, 6.5). The last two
 /// bytes of `Interface` are a count of words and a byte that is 0 in a class that the JVM takes, and those of `Dynamic`
@@ -40,7 +40,7 @@ pub(crate) fn read_call(bytes: &[u8]) -> Option<Call>
 }
 
 /// Puts the bytes of the instruction at the end.
-pub(crate) fn put_call(out: &mut Vec<u8>, call: Call) -> Result<(), AllocError>
+pub(crate) fn put_call(out: &mut Vec<u8>, call: Call) -> Mem<()>
     ensures { OnOk result (out.new.items ≡ out.old.items ++ call_spelling call) }
 {
     match call {
@@ -60,7 +60,7 @@ pub(crate) fn put_call(out: &mut Vec<u8>, call: Call) -> Result<(), AllocError>
 }
 
 /// Puts an opcode with an index of two bytes at the end.
-pub(crate) fn put_indexed(out: &mut Vec<u8>, opcode: u8, index: u16) -> Result<(), AllocError>
+pub(crate) fn put_indexed(out: &mut Vec<u8>, opcode: u8, index: u16) -> Mem<()>
     ensures { OnOk result (out.new.items ≡ out.old.items ++ opcode ∷ two index) }
 {
     let [high, low] = index.to_be_bytes();

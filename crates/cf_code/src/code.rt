@@ -19,7 +19,7 @@ pub struct Placed {
 /// back; and of what `decode` gave these are the bytes that it was read from.
 pub fn encode(alloc: Global, code: &List<Placed>) -> Mem<List<u8>>
     requires { AllFit code.now }
-    ensures bytes { IfOk result (λ bytes. bytes ≡ code_spelling code.now) }
+    ensures value { IfOk result (λ bytes. bytes ≡ code_spelling code.now) }
     ensures code { IsLaid 0 code.now → AllHaveTargets code.now → IfOk result (λ bytes. IsCode bytes code.now) }
 {
     let mut out = Vec::new(alloc);

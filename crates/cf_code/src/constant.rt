@@ -2,7 +2,7 @@
 ghost use Rattle.std.specs.Prelude.{◌≡◌, ◌++◌, Some, IfSome, OnOk};
 ghost use Rattle.cf_code.specs.Constants.{constant_spelling, FitsConstant};
 
-use std::alloc::AllocError;
+use jv_base::Mem;
 
 /// An instruction that pushes a constant (JVM Specification SE 8, 6.5). `Iconst` has -1 to 5, `Lconst` and `Dconst`
 /// have 0 and 1, `Fconst` has 0 to 2. The number of an `Ldc` is an index of the constant pool.
@@ -41,7 +41,7 @@ pub(crate) fn read_constant(bytes: &[u8]) -> Option<Constant>
 }
 
 /// Puts the bytes of the instruction at the end.
-pub(crate) fn put_constant(out: &mut Vec<u8>, constant: Constant) -> Result<(), AllocError>
+pub(crate) fn put_constant(out: &mut Vec<u8>, constant: Constant) -> Mem<()>
     requires { FitsConstant constant }
     ensures { OnOk result (out.new.items ≡ out.old.items ++ constant_spelling constant) }
 {

@@ -3,30 +3,16 @@ ghost use Rattle.std.specs.Prelude.{◌≡◌, ◌^◌, ◌<◌, ◌↔◌, ℕ,
 ghost use Rattle.std.specs.List.{AllByRecursion};
 ghost use Rattle.cf_code.specs.Instr.{IsInstr};
 ghost use Rattle.cf_code.specs.Sizes.{HasSize};
-ghost use Rattle.cf_code.specs.Starts.{Marks, IsOnlyInstr};
+ghost use Rattle.cf_code.specs.Steps.Starts.{Marks, IsOnlyInstr};
 ghost use Rattle.cf_code.specs.Decoding.{HasStarts, HasTargets, IsCode, HasBadOpcode, HasBadTarget};
 
 use crate::code::Placed;
+use crate::fault::CodeFault;
 use crate::instr::{Instr, read_instr};
 use crate::size::instr_size;
 use crate::target::targets;
 use jv_base::{List, Mem};
 use std::alloc::Global;
-use thiserror::Error;
-
-/// Why bytes are no code, with the pc of the instruction at fault (JVM Specification SE 8, 4.9.1).
-#[derive(Clone, Copy, Debug, PartialEq, Eq, Error)]
-pub enum CodeFault {
-    /// No instruction begins there: the opcode is above 201, `wide` stands before an instruction that has no wide form,
-    /// or the instruction passes the end.
-    #[error("no instruction at {0}")]
-    BadOpcode(u16),
-    /// A target is no instruction's first byte, the least key of a table is above its greatest, or keys do not rise.
-    #[error("bad target at {0}")]
-    BadTarget(u16),
-    #[error("no memory")]
-    NoMemory,
-}
 
 /// The pcs at which the instructions begin, by their sizes alone, and where the next would: the length of the bytes, or the
 /// first pc at which there is none.
@@ -117,8 +103,8 @@ fn next_placed(alloc: Global, starts: &Starts, pc: u16, bytes: &[u8]) -> Mem<Opt
 fn read_code(alloc: Global, bytes: &[u8]) -> Mem<Result<List<Placed>, CodeFault>>
     requires { length bytes.now < 2 ^ 16 }
     ensures found { IfOk result (λ r. IfOk r (λ code. IsCode bytes.now code)) }
-    ensures opcode { (pc : ℕ) → result ≡ Ok (Err (CodeFault.BadOpcode pc)) → HasBadOpcode bytes.now pc }
-    ensures target { (pc : ℕ) → result ≡ Ok (Err (CodeFault.BadTarget pc)) → HasBadTarget bytes.now pc }
+    ensures bad_opcode { (pc : ℕ) → result ≡ Ok (Err (CodeFault.BadOpcode pc)) → HasBadOpcode bytes.now pc }
+    ensures bad_target { (pc : ℕ) → result ≡ Ok (Err (CodeFault.BadTarget pc)) → HasBadTarget bytes.now pc }
 {
     let (pcs, stop) = starts_of(alloc, bytes)?;
     let starts = marks_of(alloc, pcs, bytes.len())?;
@@ -141,11 +127,8 @@ fn read_code(alloc: Global, bytes: &[u8]) -> Mem<Result<List<Placed>, CodeFault>
 pub fn decode(alloc: Global, bytes: &[u8]) -> Result<List<Placed>, CodeFault>
     requires { length bytes.now < 2 ^ 16 }
     ensures found { IfOk result (λ code. IsCode bytes.now code) }
-    ensures opcode { (pc : ℕ) → result ≡ Err (CodeFault.BadOpcode pc) → HasBadOpcode bytes.now pc }
-    ensures target { (pc : ℕ) → result ≡ Err (CodeFault.BadTarget pc) → HasBadTarget bytes.now pc }
+    ensures bad_opcode { (pc : ℕ) → result ≡ Err (CodeFault.BadOpcode pc) → HasBadOpcode bytes.now pc }
+    ensures bad_target { (pc : ℕ) → result ≡ Err (CodeFault.BadTarget pc) → HasBadTarget bytes.now pc }
 {
-    match read_code(alloc, bytes) {
-        Ok(answer) => answer,
-        Err(_) => Err(CodeFault::NoMemory),
-    }
+    read_code(alloc, bytes)?
 }

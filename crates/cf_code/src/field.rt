@@ -3,7 +3,7 @@ ghost use Rattle.std.specs.Prelude.{◌≡◌, ◌++◌, Some, IfSome, OnOk};
 ghost use Rattle.cf_code.specs.Fields.{field_opcode, field_spelling, FitsField};
 
 use crate::table::opcode_table;
-use std::alloc::AllocError;
+use jv_base::Mem;
 
 /// How a field is used: a static field is read or written, or a field of an object.
 #[derive(Clone, Copy, Debug, PartialEq, Eq)]
@@ -56,7 +56,7 @@ fn read_use(opcode: u8) -> Option<FieldUse>
 }
 
 /// Puts the bytes of the instruction at the end.
-pub(crate) fn put_field(out: &mut Vec<u8>, field: Field) -> Result<(), AllocError>
+pub(crate) fn put_field(out: &mut Vec<u8>, field: Field) -> Mem<()>
     ensures { OnOk result (out.new.items ≡ out.old.items ++ field_spelling field) }
 {
     let [high, low] = field.index.to_be_bytes();

@@ -1,16 +1,7 @@
 // An instruction, and its bytes.
 ghost use Rattle.std.specs.Prelude.{◌≡◌, ◌++◌, ◌∷◌, [], ℕ, Some, None, IfOk, IfSome, OnOk};
-ghost use Rattle.cf_code.specs.Constants.{constant_spelling, FitsConstant};
-ghost use Rattle.cf_code.specs.Locals.{local_spelling, FitsLocal};
-ghost use Rattle.cf_code.specs.Arrays.{array_spelling, FitsArray};
-ghost use Rattle.cf_code.specs.Stacks.{stack_opcode};
-ghost use Rattle.cf_code.specs.Numbers.{number_opcode};
-ghost use Rattle.cf_code.specs.Jumps.{jump_spelling, FitsJump};
-ghost use Rattle.cf_code.specs.Returns.{return_opcode};
-ghost use Rattle.cf_code.specs.Fields.{field_spelling, FitsField};
-ghost use Rattle.cf_code.specs.Calls.{call_spelling, FitsCall};
-ghost use Rattle.cf_code.specs.Objects.{object_spelling, FitsObject};
 ghost use Rattle.cf_code.specs.Instr.{spelling, Fits, IsInstr, IsPlain};
+ghost use Rattle.cf_code.specs.Steps.Families.{IsOpcode, HasOperands};
 
 use crate::array::{Array, put_array, read_array};
 use crate::call::{Call, put_call, read_call};
@@ -81,10 +72,7 @@ fn read_plain(pc: u16, bytes: &[u8]) -> Option<Instr>
 /// The instruction of an opcode, of the families that have no operand.
 fn read_alone(opcode: u8) -> Option<Instr>
     ensures found { IfSome result (λ i. (pc : ℕ) → IsInstr pc (opcode ∷ []) i) }
-    ensures nop { opcode ≡ 0 → result ≡ Some Instr.Nop }
-    ensures stack { (s : StackMove) → opcode ≡ stack_opcode s → result ≡ Some (Instr.Stack s) }
-    ensures number { (n : Number) → opcode ≡ number_opcode n → result ≡ Some (Instr.Number n) }
-    ensures returned { (r : Returned) → opcode ≡ return_opcode r → result ≡ Some (Instr.Return r) }
+    ensures only { (i : Instr) → IsOpcode i opcode → result ≡ Some i }
 {
     if opcode == 0 {
         return Some(Instr::Nop);
@@ -101,17 +89,7 @@ fn read_alone(opcode: u8) -> Option<Instr>
 /// The instruction that these bytes are at a pc, of the families that have operands.
 fn read_family(pc: u16, bytes: &[u8]) -> Option<Instr>
     ensures found { IfSome result (λ i. IsInstr pc bytes.now i) }
-    ensures constant { (c : Constant) → FitsConstant c → bytes.now ≡ constant_spelling c → result ≡ Some (Instr.Constant c) }
-    ensures local { (l : Local) → FitsLocal l → bytes.now ≡ local_spelling l → result ≡ Some (Instr.Local l) }
-    ensures array { (a : Array) → FitsArray a → bytes.now ≡ array_spelling a → result ≡ Some (Instr.Array a) }
-    ensures jump { (j : Jump) → FitsJump pc j → bytes.now ≡ jump_spelling pc j → result ≡ Some (Instr.Jump j) }
-    ensures field { (f : Field) → FitsField f → bytes.now ≡ field_spelling f → result ≡ Some (Instr.Field f) }
-    ensures call { (c : Call) → FitsCall c → bytes.now ≡ call_spelling c → result ≡ Some (Instr.Call c) }
-    ensures object { (o : Object) → FitsObject o → bytes.now ≡ object_spelling o → result ≡ Some (Instr.Object o) }
-    ensures no_nop { bytes.now ≡ 0 ∷ [] → result ≡ None }
-    ensures no_stack { (s : StackMove) → bytes.now ≡ stack_opcode s ∷ [] → result ≡ None }
-    ensures no_number { (n : Number) → bytes.now ≡ number_opcode n ∷ [] → result ≡ None }
-    ensures no_return { (r : Returned) → bytes.now ≡ return_opcode r ∷ [] → result ≡ None }
+    ensures only { (i : Instr) → HasOperands i → IsInstr pc bytes.now i → result ≡ Some i }
 {
     if let Some(constant) = read_constant(bytes) {
         return Some(Instr::Constant(constant));

@@ -1,9 +1,12 @@
 // Jumps, whose targets are pcs.
 ghost use Rattle.std.specs.Prelude.{◌≡◌, ◌++◌, ◌+◌, ◌∷◌, [], ◌<◌, ◌^◌, ℕ, Some, IfSome, OnOk};
 ghost use Rattle.cf_code.specs.Bytes.{two, four, offset, signed_two, signed_four, IsTwo};
-ghost use Rattle.cf_code.specs.Jumps.{zero_opcode, ints_opcode, references_opcode, null_opcode, near_spelling, far_spelling, jump_spelling, IsNear, FitsJump};
+ghost use Rattle.cf_code.specs.Jumps.{near_spelling, far_spelling, jump_spelling, IsNear, FitsJump};
+ghost use Rattle.cf_code.specs.Steps.Opcodes.{jump_opcode};
+ghost use Rattle.cf_code.specs.Targets.{jump_target};
 
-use std::alloc::AllocError;
+use crate::table::opcode_table;
+use jv_base::Mem;
 
 /// How an int compares with another, or with 0.
 #[derive(Clone, Copy, Debug, PartialEq, Eq)]
@@ -43,43 +46,63 @@ pub(crate) fn read_jump(pc: u16, bytes: &[u8]) -> Option<Jump>
     ensures only { (j : Jump) → FitsJump pc j → bytes.now ≡ jump_spelling pc j → result ≡ Some j }
 {
     match bytes {
-        [opcode, high, low] => near_jump(*opcode, near_target(pc, *high, *low)?),
-        [200, a, b, c, d] => Some(Jump::GotoW(far_target(pc, *a, *b, *c, *d)?)),
-        [201, a, b, c, d] => Some(Jump::JsrW(far_target(pc, *a, *b, *c, *d)?)),
+        [opcode @ 153..=199, high, low] => numbered_jump(*opcode, near_target(pc, *high, *low)?),
+        [opcode @ 200..=201, a, b, c, d] => numbered_jump(*opcode, far_target(pc, *a, *b, *c, *d)?),
         _ => None,
     }
 }
 
-/// The jump of an opcode that has an offset of two bytes.
-fn near_jump(opcode: u8, target: u16) -> Option<Jump>
-    ensures found { IfSome result (λ j. (pc : ℕ) → (IsNear pc target → FitsJump pc j) × (near_spelling opcode pc target ≡ jump_spelling pc j)) }
-    ensures zero { (c : Condition) → opcode ≡ zero_opcode c → result ≡ Some (Jump.IfZero c target) }
-    ensures ints { (c : Condition) → opcode ≡ ints_opcode c → result ≡ Some (Jump.IfInts c target) }
-    ensures references { (e : Equality) → opcode ≡ references_opcode e → result ≡ Some (Jump.IfReferences e target) }
-    ensures null { (e : Equality) → opcode ≡ null_opcode e → result ≡ Some (Jump.IfNull e target) }
-    ensures goto { opcode ≡ 167 → result ≡ Some (Jump.Goto target) }
-    ensures jsr { opcode ≡ 168 → result ≡ Some (Jump.Jsr target) }
+/// The opcodes of jumps.
+macro_rules! jump_table {
+    ($side:ident $known:expr, $target:tt) => {
+        opcode_table!($side $known;
+            153 => (Jump::IfZero(Condition::Equal, $target)),
+            154 => (Jump::IfZero(Condition::NotEqual, $target)),
+            155 => (Jump::IfZero(Condition::Less, $target)),
+            156 => (Jump::IfZero(Condition::AtLeast, $target)),
+            157 => (Jump::IfZero(Condition::Greater, $target)),
+            158 => (Jump::IfZero(Condition::AtMost, $target)),
+            159 => (Jump::IfInts(Condition::Equal, $target)),
+            160 => (Jump::IfInts(Condition::NotEqual, $target)),
+            161 => (Jump::IfInts(Condition::Less, $target)),
+            162 => (Jump::IfInts(Condition::AtLeast, $target)),
+            163 => (Jump::IfInts(Condition::Greater, $target)),
+            164 => (Jump::IfInts(Condition::AtMost, $target)),
+            165 => (Jump::IfReferences(Equality::Same, $target)),
+            166 => (Jump::IfReferences(Equality::Other, $target)),
+            167 => (Jump::Goto($target)),
+            168 => (Jump::Jsr($target)),
+            198 => (Jump::IfNull(Equality::Same, $target)),
+            199 => (Jump::IfNull(Equality::Other, $target)),
+            200 => (Jump::GotoW($target)),
+            201 => (Jump::JsrW($target)),
+        )
+    };
+}
+
+/// The jump of an opcode.
+fn numbered_jump(opcode: u8, target: u16) -> Option<Jump>
+    ensures found { IfSome result (λ j. (opcode ≡ jump_opcode j) × (target ≡ jump_target j)) }
+    ensures only { (j : Jump) → opcode ≡ jump_opcode j → target ≡ jump_target j → result ≡ Some j }
 {
-    match opcode {
-        153 => Some(Jump::IfZero(Condition::Equal, target)),
-        154 => Some(Jump::IfZero(Condition::NotEqual, target)),
-        155 => Some(Jump::IfZero(Condition::Less, target)),
-        156 => Some(Jump::IfZero(Condition::AtLeast, target)),
-        157 => Some(Jump::IfZero(Condition::Greater, target)),
-        158 => Some(Jump::IfZero(Condition::AtMost, target)),
-        159 => Some(Jump::IfInts(Condition::Equal, target)),
-        160 => Some(Jump::IfInts(Condition::NotEqual, target)),
-        161 => Some(Jump::IfInts(Condition::Less, target)),
-        162 => Some(Jump::IfInts(Condition::AtLeast, target)),
-        163 => Some(Jump::IfInts(Condition::Greater, target)),
-        164 => Some(Jump::IfInts(Condition::AtMost, target)),
-        165 => Some(Jump::IfReferences(Equality::Same, target)),
-        166 => Some(Jump::IfReferences(Equality::Other, target)),
-        167 => Some(Jump::Goto(target)),
-        168 => Some(Jump::Jsr(target)),
-        198 => Some(Jump::IfNull(Equality::Same, target)),
-        199 => Some(Jump::IfNull(Equality::Other, target)),
-        _ => None,
+    jump_table!(read opcode, target)
+}
+
+/// The opcode of a jump.
+fn jump_byte(jump: Jump) -> u8
+    ensures { result ≡ jump_opcode jump }
+{
+    jump_table!(write jump, _)
+}
+
+/// The target of a jump.
+pub(crate) fn jump_target(jump: Jump) -> u16
+    ensures { result ≡ jump_target jump }
+{
+    match jump {
+        Jump::IfZero(_, target) | Jump::IfInts(_, target) => target,
+        Jump::IfReferences(_, target) | Jump::IfNull(_, target) => target,
+        Jump::Goto(target) | Jump::GotoW(target) | Jump::Jsr(target) | Jump::JsrW(target) => target,
     }
 }
 
@@ -102,46 +125,19 @@ pub(crate) fn far_target(pc: u16, a: u8, b: u8, c: u8, d: u8) -> Option<u16>
 }
 
 /// Puts the bytes of the jump at a pc at the end.
-pub(crate) fn put_jump(out: &mut Vec<u8>, pc: u16, jump: Jump) -> Result<(), AllocError>
+pub(crate) fn put_jump(out: &mut Vec<u8>, pc: u16, jump: Jump) -> Mem<()>
     requires { FitsJump pc jump }
     ensures { OnOk result (out.new.items ≡ out.old.items ++ jump_spelling pc jump) }
 {
+    let opcode = jump_byte(jump);
     match jump {
-        Jump::IfZero(condition, target) => {
-            put_near(out, 153 + condition_number(condition), pc, target)
-        }
-        Jump::IfInts(condition, target) => {
-            put_near(out, 159 + condition_number(condition), pc, target)
-        }
-        Jump::IfReferences(Equality::Same, target) => put_near(out, 165, pc, target),
-        Jump::IfReferences(Equality::Other, target) => put_near(out, 166, pc, target),
-        Jump::IfNull(Equality::Same, target) => put_near(out, 198, pc, target),
-        Jump::IfNull(Equality::Other, target) => put_near(out, 199, pc, target),
-        Jump::Goto(target) => put_near(out, 167, pc, target),
-        Jump::GotoW(target) => put_far(out, 200, pc, target),
-        Jump::Jsr(target) => put_near(out, 168, pc, target),
-        Jump::JsrW(target) => put_far(out, 201, pc, target),
-    }
-}
-
-/// The place of a condition in the order of the opcodes.
-fn condition_number(condition: Condition) -> u8
-    ensures zero { zero_opcode condition ≡ 153 + result }
-    ensures ints { ints_opcode condition ≡ 159 + result }
-    ensures few { result < 6 }
-{
-    match condition {
-        Condition::Equal => 0,
-        Condition::NotEqual => 1,
-        Condition::Less => 2,
-        Condition::AtLeast => 3,
-        Condition::Greater => 4,
-        Condition::AtMost => 5,
+        Jump::GotoW(target) | Jump::JsrW(target) => put_far(out, opcode, pc, target),
+        _ => put_near(out, opcode, pc, jump_target(jump)),
     }
 }
 
 /// Puts a jump with an offset of two bytes at the end.
-fn put_near(out: &mut Vec<u8>, opcode: u8, pc: u16, target: u16) -> Result<(), AllocError>
+fn put_near(out: &mut Vec<u8>, opcode: u8, pc: u16, target: u16) -> Mem<()>
     requires { IsNear pc target }
     ensures { OnOk result (out.new.items ≡ out.old.items ++ near_spelling opcode pc target) }
 {
@@ -151,7 +147,7 @@ fn put_near(out: &mut Vec<u8>, opcode: u8, pc: u16, target: u16) -> Result<(), A
 }
 
 /// Puts a jump with an offset of four bytes at the end.
-fn put_far(out: &mut Vec<u8>, opcode: u8, pc: u16, target: u16) -> Result<(), AllocError>
+fn put_far(out: &mut Vec<u8>, opcode: u8, pc: u16, target: u16) -> Mem<()>
     ensures { OnOk result (out.new.items ≡ out.old.items ++ far_spelling opcode pc target) }
 {
     let offset = i32::from(target) - i32::from(pc);

@@ -3,7 +3,7 @@ ghost use Rattle.std.specs.Prelude.{◌≡◌, ◌++◌, Some, IfSome, OnOk};
 ghost use Rattle.cf_code.specs.Objects.{object_spelling, FitsObject};
 
 use crate::call::put_indexed;
-use std::alloc::AllocError;
+use jv_base::Mem;
 
 /// An instruction on an object (JVM Specification SE 8, 6.5). An index is one of the constant pool, of a class.
 #[derive(Clone, Copy, Debug, PartialEq, Eq)]
@@ -33,7 +33,7 @@ pub(crate) fn read_object(bytes: &[u8]) -> Option<Object>
 }
 
 /// Puts the bytes of the instruction at the end.
-pub(crate) fn put_object(out: &mut Vec<u8>, object: Object) -> Result<(), AllocError>
+pub(crate) fn put_object(out: &mut Vec<u8>, object: Object) -> Mem<()>
     ensures { OnOk result (out.new.items ≡ out.old.items ++ object_spelling object) }
 {
     match object {

@@ -33,7 +33,7 @@ fn wide_bytes(bytes: &[u8]) -> Option<usize>
 fn table_keys(body: &[u8]) -> Option<usize>
     ensures found { IfSome result (λ n. HasKeys body.now n) }
     ensures only { (n : ℕ) → HasKeys body.now n → result ≡ Some n }
-    ensures few { IfSome result (λ n. n ≤ 2 ^ 32) }
+    ensures within { IfSome result (λ n. n ≤ 2 ^ 32) }
 {
     let (_, rest) = next_int(body)?;
     let (low, rest) = next_int(rest)?;

@@ -1,6 +1,6 @@
 // The two switches.
 ghost use Rattle.std.specs.Prelude.{◌≡◌, ◌++◌, ◌∷◌, ◌<◌, ◌≤◌, ◌^◌, ◌≤ℤ◌, ◌<ℤ◌, ◌+ℤ◌, ◌-ℤ◌, ◌↔◌, IsTrue, ℕ, ℤ, pos, List as list_of, length, Some, IfOk, IfSome, MatchOption, OnOk};
-ghost use Rattle.std.specs.List.{flat_map, AllByRecursion};
+ghost use Rattle.std.specs.List.{flat_map, All};
 ghost use Rattle.std.specs.Int.{w32};
 ghost use Rattle.std.specs.Int.RustNames.{FitsSigned};
 ghost use Rattle.cf_code.specs.Bytes.{four, signed_four, IsTwo};
@@ -57,8 +57,8 @@ fn next_target(pc: u16, bytes: &[u8]) -> Option<(u16, &[u8])>
 
 /// The targets whose offsets from a pc these bytes are. None where one is no pc of two bytes.
 fn read_targets(alloc: Global, pc: u16, bytes: &[u8]) -> Mem<Option<List<u16>>>
-    ensures found { IfOk result (λ r. IfSome r (λ ts. (bytes.now ≡ flat_map (far pc) ts) × AllByRecursion IsTwo ts)) }
-    ensures only { (ts : list_of ℕ) → AllByRecursion IsTwo ts → bytes.now ≡ flat_map (far pc) ts → IfOk result (λ r. r ≡ Some ts) }
+    ensures found { IfOk result (λ r. IfSome r (λ ts. (bytes.now ≡ flat_map (far pc) ts) × All IsTwo ts)) }
+    ensures only { (ts : list_of ℕ) → All IsTwo ts → bytes.now ≡ flat_map (far pc) ts → IfOk result (λ r. r ≡ Some ts) }
 {
     let mut targets = Vec::new(alloc);
     let mut rest = bytes;
@@ -88,8 +88,8 @@ fn next_case(pc: u16, bytes: &[u8]) -> Option<(Case, &[u8])>
 
 /// The cases whose keys, and offsets from a pc, these bytes are. None where a target is no pc of two bytes.
 fn read_pairs(alloc: Global, pc: u16, bytes: &[u8]) -> Mem<Option<List<Case>>>
-    ensures found { IfOk result (λ r. IfSome r (λ cs. (bytes.now ≡ flat_map (pair pc) cs) × AllByRecursion FitsCase cs)) }
-    ensures only { (cs : list_of Case) → AllByRecursion FitsCase cs → bytes.now ≡ flat_map (pair pc) cs → IfOk result (λ r. r ≡ Some cs) }
+    ensures found { IfOk result (λ r. IfSome r (λ cs. (bytes.now ≡ flat_map (pair pc) cs) × All FitsCase cs)) }
+    ensures only { (cs : list_of Case) → All FitsCase cs → bytes.now ≡ flat_map (pair pc) cs → IfOk result (λ r. r ≡ Some cs) }
 {
     let mut cases = Vec::new(alloc);
     let mut rest = bytes;
@@ -142,7 +142,7 @@ pub(crate) fn next_count(bytes: &[u8]) -> Option<(u32, &[u8])>
 pub(crate) fn key_count(low: i32, high: i32) -> usize
     ensures some { low ≤ℤ high → pos result ≡ high -ℤ low +ℤ pos 1 }
     ensures none { high <ℤ low → result ≡ 0 }
-    ensures few { result ≤ 2 ^ 32 }
+    ensures within { result ≤ 2 ^ 32 }
 {
     if low <= high {
         (i64::from(high) - i64::from(low) + 1) as usize
@@ -198,7 +198,7 @@ pub(crate) fn read_table(alloc: Global, pc: u16, bytes: &[u8]) -> Mem<Option<Tab
     let Some((default, low, targets)) = read_table_body(alloc, pc, rest)? else {
         return Ok(None);
     };
-    let padding = List::from_vec(Vec::from_slice(alloc, padding)?);
+    let padding = List::copied(alloc, padding)?;
     Ok(Some(TableSwitch {
         padding,
         default,
@@ -239,7 +239,7 @@ pub(crate) fn read_lookup(alloc: Global, pc: u16, bytes: &[u8]) -> Mem<Option<Lo
     let Some((default, cases)) = read_lookup_body(alloc, pc, rest)? else {
         return Ok(None);
     };
-    let padding = List::from_vec(Vec::from_slice(alloc, padding)?);
+    let padding = List::copied(alloc, padding)?;
     Ok(Some(LookupSwitch {
         padding,
         default,

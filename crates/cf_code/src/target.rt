@@ -1,9 +1,9 @@
 // Where an instruction can go.
 ghost use Rattle.std.specs.Prelude.{◌≡◌, ◌++◌, IfOk, OnOk, map};
-ghost use Rattle.cf_code.specs.Targets.{jump_target, targets, jump_goes_on, goes_on};
+ghost use Rattle.cf_code.specs.Targets.{targets, jump_goes_on, goes_on};
 
 use crate::instr::Instr;
-use crate::jump::Jump;
+use crate::jump::{Jump, jump_target};
 use crate::local::Local;
 use crate::object::Object;
 use crate::switch::Case;
@@ -14,39 +14,28 @@ use std::alloc::Global;
 pub(crate) fn targets(alloc: Global, instr: &Instr) -> Mem<List<u16>>
     ensures { IfOk result (λ found. found ≡ targets instr.now) }
 {
-    let mut found = Vec::new(alloc);
+    let mut found = List::new(alloc);
     match instr {
-        Instr::Jump(jump) => found.push(jump_target(*jump))?,
+        Instr::Jump(jump) => found.add(jump_target(*jump))?,
         Instr::Table(switch) => {
-            found.push(switch.default)?;
-            found.extend_from_slice(switch.targets.as_slice())?;
+            found.add(switch.default)?;
+            found.extend(switch.targets.as_slice())?;
         }
         Instr::Lookup(switch) => {
-            found.push(switch.default)?;
+            found.add(switch.default)?;
             put_case_targets(&mut found, switch.cases.as_slice())?;
         }
         _ => {}
     }
-    Ok(List::from_vec(found))
-}
-
-/// The target of a jump.
-fn jump_target(jump: Jump) -> u16
-    ensures { result ≡ jump_target jump }
-{
-    match jump {
-        Jump::IfZero(_, target) | Jump::IfInts(_, target) => target,
-        Jump::IfReferences(_, target) | Jump::IfNull(_, target) => target,
-        Jump::Goto(target) | Jump::GotoW(target) | Jump::Jsr(target) | Jump::JsrW(target) => target,
-    }
+    Ok(found)
 }
 
 /// Puts the target of each case at the end.
-fn put_case_targets(out: &mut Vec<u16>, cases: &[Case]) -> Mem<()>
-    ensures { OnOk result (out.new.items ≡ out.old.items ++ map (λ c. c.target) cases.now) }
+fn put_case_targets(out: &mut List<u16>, cases: &[Case]) -> Mem<()>
+    ensures { OnOk result (out.new ≡ out.old ++ map (λ c. c.target) cases.now) }
 {
     for case in cases {
-        out.push(case.target)?;
+        out.add(case.target)?;
     }
     Ok(())
 }

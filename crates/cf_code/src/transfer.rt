@@ -5,7 +5,7 @@ ghost use Rattle.std.specs.List.Sorted.{IsPermutation, IsSorted};
 ghost use Rattle.std.specs.Ordering.{nat_cmp};
 ghost use Rattle.cf_code.specs.Decoding.{pcs};
 ghost use Rattle.cf_code.specs.Transfers.{next_pc, CanFollow, AreInOrder};
-ghost use Rattle.cf_code.specs.Ways.{found_start, next_ways, target_ways, handler_ways, ways};
+ghost use Rattle.cf_code.specs.Steps.Ways.{found_start, next_ways, target_ways, handler_ways, ways};
 
 use crate::code::Placed;
 use crate::length::instr_length;

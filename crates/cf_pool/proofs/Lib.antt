@@ -1,10 +1,13 @@
-pub mod UnitTexts
-pub mod UnitLists
-pub mod NumberTexts
-pub mod EntryTexts
-pub mod Reading
-pub mod EntryOne
-pub mod PoolOne
-pub mod UnitsDecided
-pub mod PoolDecided
+pub mod UnitLemmas
+pub mod UnitListLemmas
+pub mod NumberLemmas
+pub mod EntryTextLemmas
+pub mod ReadingLemmas
+pub mod PoolReadingLemmas
+pub mod EntryLemmas
+pub mod EntryFaultLemmas
+pub mod PoolLemmas
+pub mod UnitDecisionLemmas
+pub mod EntryDecisionLemmas
+pub mod PoolDecisionLemmas
 mod StandardFacts

@@ -12,7 +12,7 @@ use Rattle.cf_pool.specs.declared.fault.PoolFault.TheVariants.{Malformed, NoMemo
 use Rattle.cf_pool.specs.ModifiedUtf8.{IsBadUnit}
 use Rattle.cf_pool.specs.Tags.{tag_byte, indices, content_size}
 use Rattle.cf_pool.specs.Spelling.{two_bytes, entry_text, pool_text}
-use Rattle.cf_pool.specs.Entries.{IsEntry, slots, IsLaidOut}
+use Rattle.cf_pool.specs.Entries.{IsPoolEntry, slots, IsLaidOut}
 
 -- The pool of these bytes, with what stands at each index, and the place after it. What stands before place 8 and behind the pool is not looked at.
 pub record IsPool (bytes : List ℕ) (pool : List PoolEntry) (place : ℕ) : Type 0 where
@@ -20,7 +20,7 @@ pub record IsPool (bytes : List ℕ) (pool : List PoolEntry) (place : ℕ) : Typ
   pub entries : List PoolEntry
   pub rest : List ℕ
   pub head_is : length head ≡ 8
-  pub entries_fit : All IsEntry entries
+  pub entries_fit : All IsPoolEntry entries
   pub laid_out : IsLaidOut pool entries
   pub count_fits : length pool < 2 ^ 16
   pub parts : bytes ≡ head ++ (pool_text pool ++ rest)
@@ -65,7 +65,7 @@ pub record IsFaultOfEntry (bytes : List ℕ) (fault : Fault) : Type 0 where
   pub at : ℕ
   pub head_is : length head ≡ 8
   pub count_fits : count < 2 ^ 16
-  pub entries_fit : All IsEntry entries
+  pub entries_fit : All IsPoolEntry entries
   pub parts : bytes ≡ head ++ (two_bytes count ++ (flat_map entry_text entries ++ rest))
   pub indices_left : 1 + length (flat_map slots entries) + left ≡ count
   pub some_left : 0 < left

@@ -5,29 +5,29 @@ use Rattle.std.specs.Int.{w32, w64}
 use Rattle.std.specs.Prelude.{FitsSigned}
 use Rattle.cf_pool.specs.declared.entry.PoolEntry.{PoolEntry}
 use Rattle.cf_pool.specs.declared.entry.PoolEntry.TheVariants.{Utf8, Integer, Float, Long, Double, Class, Str, Field, Method, InterfaceMethod, NameAndType, MethodHandle, MethodType, InvokeDynamic, Unusable}
-use Rattle.cf_pool.specs.ModifiedUtf8.{IsUnit, units_text}
+use Rattle.cf_pool.specs.ModifiedUtf8.{IsUnit, encoded_units}
 
 -- a number of two bytes
 abbrev pub IsIndex : ℕ → Type 0
 IsIndex n = n < 2 ^ 16
 
 -- an entry that has a spelling: each part fits its bytes
-abbrev pub IsEntry : PoolEntry → Type 0
-IsEntry (Utf8 units) = All IsUnit units × (length (units_text units) < 2 ^ 16)
-IsEntry (Integer n) = FitsSigned w32 n
-IsEntry (Float bits) = bits < 2 ^ 32
-IsEntry (Long n) = FitsSigned w64 n
-IsEntry (Double bits) = bits < 2 ^ 64
-IsEntry (Class name) = IsIndex name
-IsEntry (Str text) = IsIndex text
-IsEntry (Field class name_and_type) = IsIndex class × IsIndex name_and_type
-IsEntry (Method class name_and_type) = IsIndex class × IsIndex name_and_type
-IsEntry (InterfaceMethod class name_and_type) = IsIndex class × IsIndex name_and_type
-IsEntry (NameAndType name descriptor) = IsIndex name × IsIndex descriptor
-IsEntry (MethodHandle kind index) = (kind < 2 ^ 8) × IsIndex index
-IsEntry (MethodType descriptor) = IsIndex descriptor
-IsEntry (InvokeDynamic bootstrap name_and_type) = IsIndex bootstrap × IsIndex name_and_type
-IsEntry Unusable = ⊥
+abbrev pub IsPoolEntry : PoolEntry → Type 0
+IsPoolEntry (Utf8 units) = All IsUnit units × (length (encoded_units units) < 2 ^ 16)
+IsPoolEntry (Integer n) = FitsSigned w32 n
+IsPoolEntry (Float bits) = bits < 2 ^ 32
+IsPoolEntry (Long n) = FitsSigned w64 n
+IsPoolEntry (Double bits) = bits < 2 ^ 64
+IsPoolEntry (Class name) = IsIndex name
+IsPoolEntry (Str text) = IsIndex text
+IsPoolEntry (Field class name_and_type) = IsIndex class × IsIndex name_and_type
+IsPoolEntry (Method class name_and_type) = IsIndex class × IsIndex name_and_type
+IsPoolEntry (InterfaceMethod class name_and_type) = IsIndex class × IsIndex name_and_type
+IsPoolEntry (NameAndType name descriptor) = IsIndex name × IsIndex descriptor
+IsPoolEntry (MethodHandle kind index) = (kind < 2 ^ 8) × IsIndex index
+IsPoolEntry (MethodType descriptor) = IsIndex descriptor
+IsPoolEntry (InvokeDynamic bootstrap name_and_type) = IsIndex bootstrap × IsIndex name_and_type
+IsPoolEntry Unusable = ⊥
 
 -- what an entry puts at the indices that it takes: a Long and a Double take two, and the second is unusable (4.4.5)
 abbrev pub slots : PoolEntry → List PoolEntry

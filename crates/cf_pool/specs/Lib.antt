@@ -3,5 +3,5 @@ pub mod Tags
 pub mod Spelling
 pub mod Entries
 pub mod ConstantPool
-pub mod Contents
+pub mod Calls
 pub mod Laws

@@ -4,7 +4,7 @@ use Rattle.std.specs.List.{flat_map}
 use Rattle.std.specs.Int.{w16, w32, w64, to_be_bytes, cast_unsigned}
 use Rattle.cf_pool.specs.declared.entry.PoolEntry.{PoolEntry}
 use Rattle.cf_pool.specs.declared.entry.PoolEntry.TheVariants.{Utf8, Integer, Float, Long, Double, Class, Str, Field, Method, InterfaceMethod, NameAndType, MethodHandle, MethodType, InvokeDynamic, Unusable}
-use Rattle.cf_pool.specs.ModifiedUtf8.{units_text}
+use Rattle.cf_pool.specs.ModifiedUtf8.{encoded_units}
 
 -- a number of two bytes
 abbrev pub two_bytes : ℕ → List ℕ
@@ -12,7 +12,7 @@ two_bytes n = to_be_bytes w16 n
 
 -- a text behind its length in bytes (4.4.7)
 abbrev pub text_spelling : List ℕ → List ℕ
-text_spelling units = two_bytes (length (units_text units)) ++ units_text units
+text_spelling units = two_bytes (length (encoded_units units)) ++ encoded_units units
 
 -- two indices
 abbrev pub pair_spelling : ℕ → ℕ → List ℕ

@@ -3,9 +3,9 @@ ghost use Rattle.std.specs.Prelude.{◌≡◌, ◌∷◌, length, drop, IfOk, If
 ghost use Rattle.byteorder.specs.Endian.{big_number};
 ghost use Rattle.cf_pool.specs.Tags.{tag_byte, content_size};
 ghost use Rattle.cf_pool.specs.Spelling.{entry_text};
-ghost use Rattle.cf_pool.specs.Entries.{IsEntry};
+ghost use Rattle.cf_pool.specs.Entries.{IsPoolEntry};
 ghost use Rattle.cf_pool.specs.ConstantPool.{Names};
-ghost use Rattle.cf_pool.specs.Contents.{numbers_entry, IsFaultOfContent};
+ghost use Rattle.cf_pool.specs.Calls.Contents.{numbers_entry, IsFaultOfContent};
 
 use crate::entry::PoolEntry;
 use crate::fault::PoolFault;
@@ -72,8 +72,8 @@ fn numbers_entry(tag: Tag, content: &[u8]) -> Option<PoolEntry>
 /// The text behind its length.
 fn text_entry(alloc: Global, content: &[u8]) -> Result<PoolEntry, PoolFault>
     requires { length content.now ≡ content_size Tag.Utf8 content.now }
-    ensures found { IfOk result (λ e. IsEntry e × (entry_text e ≡ tag_byte Tag.Utf8 ∷ content.now)) }
-    ensures bad { IfErr result (Names (IsFaultOfContent content.now)) }
+    ensures found { IfOk result (λ e. IsPoolEntry e × (entry_text e ≡ tag_byte Tag.Utf8 ∷ content.now)) }
+    ensures fault { IfErr result (Names (IsFaultOfContent content.now)) }
 {
     match units_of(alloc, &content[TEXT_PLACE - 1..]) {
         Ok(units) => Ok(PoolEntry::Utf8(units)),
@@ -84,8 +84,8 @@ fn text_entry(alloc: Global, content: &[u8]) -> Result<PoolEntry, PoolFault>
 /// The entry with that tag and this content. The place of a fault is counted from the tag.
 pub(crate) fn entry_of(alloc: Global, tag: Tag, content: &[u8]) -> Result<PoolEntry, PoolFault>
     requires { length content.now ≡ content_size tag content.now }
-    ensures found { IfOk result (λ e. IsEntry e × (entry_text e ≡ tag_byte tag ∷ content.now)) }
-    ensures bad { IfErr result (Names (λ f. (tag ≡ Tag.Utf8) × IsFaultOfContent content.now f)) }
+    ensures found { IfOk result (λ e. IsPoolEntry e × (entry_text e ≡ tag_byte tag ∷ content.now)) }
+    ensures fault { IfErr result (Names (λ f. (tag ≡ Tag.Utf8) × IsFaultOfContent content.now f)) }
 {
     match numbers_entry(tag, content) {
         Some(entry) => Ok(entry),

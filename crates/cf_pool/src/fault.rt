@@ -1,7 +1,7 @@
 // What makes a class file malformed, and where.
 ghost use Rattle.std.specs.Prelude.{◌≡◌, ◌<◌, ◌+◌, ◌^◌};
 ghost use Rattle.cf_pool.specs.ConstantPool.{Names};
-ghost use Rattle.cf_pool.specs.Contents.{later};
+ghost use Rattle.cf_pool.specs.Calls.Contents.{later};
 ghost use Rattle.cf_pool.specs.declared.fault.PoolFault.TheVariants.{NoMemory};
 
 use std::alloc::{AllocError, AllocFailed};

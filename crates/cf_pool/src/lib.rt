@@ -7,8 +7,6 @@ mod fault;
 mod laws;
 mod reader;
 mod tag;
-#[cfg(test)]
-mod tests;
 mod units;
 
 pub use entry::{Pool, PoolEntry};

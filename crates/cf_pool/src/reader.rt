@@ -4,16 +4,16 @@ ghost use Rattle.cf_pool.specs.declared.entry.PoolEntry.{PoolEntry};
 ghost use Rattle.cf_pool.specs.declared.tag.Tag.{Tag};
 ghost use Rattle.cf_pool.specs.Tags.{tag_byte, indices};
 ghost use Rattle.cf_pool.specs.Spelling.{entry_text};
-ghost use Rattle.cf_pool.specs.Entries.{IsEntry, slots};
+ghost use Rattle.cf_pool.specs.Entries.{IsPoolEntry, slots};
 ghost use Rattle.cf_pool.specs.ConstantPool.{IsPool, IsEntryFault, IsPoolFault, Names};
-ghost use Rattle.cf_pool.specs.Contents.{ReadsEntries, IsFaultOfEntries};
+ghost use Rattle.cf_pool.specs.Calls.Contents.{ReadsEntries, IsFaultOfEntries};
 
 use crate::content::entry_of;
 use crate::entry::{Pool, PoolEntry};
 use crate::fault::{PoolFault, What, fault_at};
 use crate::tag::Tag;
 use byteorder::{BigEndian, ByteOrder};
-use jv_base::List;
+use jv_base::{List, Mem};
 use std::alloc::Global;
 
 /// Where the count of the pool stands, behind the magic number and the version (4.1).
@@ -37,8 +37,8 @@ fn tag_with_room(byte: u8, left: usize) -> Option<Tag>
 /// The entry that the bytes begin with, where so many indices are left, and what follows it. The place of a fault is
 /// counted from the tag.
 fn read_entry(alloc: Global, left: usize, bytes: &[u8]) -> Result<(PoolEntry, &[u8]), PoolFault>
-    ensures found { IfOk result (λ r. IsEntry r.0 × (length (slots r.0) ≤ left) × (bytes.now ≡ entry_text r.0 ++ r.1.now)) }
-    ensures bad { IfErr result (Names (λ f. IsEntryFault left bytes.now f.what f.place)) }
+    ensures found { IfOk result (λ r. IsPoolEntry r.0 × (length (slots r.0) ≤ left) × (bytes.now ≡ entry_text r.0 ++ r.1.now)) }
+    ensures fault { IfErr result (Names (λ f. IsEntryFault left bytes.now f.what f.place)) }
     ensures within { IfErr result (Names (λ f. f.place ≤ length bytes.now)) }
 {
     let Some((byte, rest)) = bytes.split_first() else {
@@ -57,16 +57,13 @@ fn read_entry(alloc: Global, left: usize, bytes: &[u8]) -> Result<(PoolEntry, &[
 }
 
 /// Puts an entry at the indices that it takes.
-fn push_slots(pool: &mut List<PoolEntry>, entry: PoolEntry) -> Result<(), PoolFault>
+fn push_slots(pool: &mut List<PoolEntry>, entry: PoolEntry) -> Mem<()>
     ensures ok { OnOk result (pool.new ≡ pool.old ++ slots entry) }
-    ensures memory { IfErr result (λ e. e ≡ PoolFault.NoMemory) }
 {
     let is_wide = matches!(entry, PoolEntry::Long(_) | PoolEntry::Double(_));
-    if pool.push(entry).is_err() {
-        return Err(PoolFault::NoMemory);
-    }
-    if is_wide && pool.push(PoolEntry::Unusable).is_err() {
-        return Err(PoolFault::NoMemory);
+    pool.add(entry)?;
+    if is_wide {
+        pool.add(PoolEntry::Unusable)?;
     }
     Ok(())
 }
@@ -79,7 +76,7 @@ fn read_entries(
     bytes: &[u8],
 ) -> Result<(List<PoolEntry>, &[u8]), PoolFault>
     ensures found { IfOk result (λ r. ReadsEntries count bytes.now r.0 r.1.now) }
-    ensures bad { IfErr result (Names (IsFaultOfEntries count bytes.now)) }
+    ensures fault { IfErr result (Names (IsFaultOfEntries count bytes.now)) }
     ensures within { IfErr result (Names (λ f. f.place ≤ length bytes.now)) }
 {
     let count = usize::from(count);
@@ -108,7 +105,7 @@ fn read_entries(
 /// first unit at fault in a text that is there in full.
 pub fn read_pool(alloc: Global, bytes: &[u8]) -> Result<(Pool, u64), PoolFault>
     ensures found { IfOk result (λ r. IsPool bytes.now r.0.entries r.1) }
-    ensures bad { IfErr result (Names (IsPoolFault bytes.now)) }
+    ensures fault { IfErr result (Names (IsPoolFault bytes.now)) }
     ensures inside { IfOk result (λ r. r.1 ≤ length bytes.now) }
     ensures outside { IfErr result (Names (λ _. (pool : list_of PoolEntry) (place : ℕ) → IsPool bytes.now pool place → ⊥)) }
 {

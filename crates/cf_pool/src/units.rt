@@ -1,6 +1,6 @@
 // Modified UTF-8 (JVM Specification SE 8, 4.4.7).
 ghost use Rattle.std.specs.Prelude.{◌≡◌, ◌≢◌, ℕ, List as list_of, ◌<◌, ◌+◌, ◌∷◌, ◌++◌, length, IfSome, IfNone, IfOk, IfErr};
-ghost use Rattle.cf_pool.specs.ModifiedUtf8.{IsUnit, unit_text, AreUnitsOf, BeginNoUnit, IsBadUnit};
+ghost use Rattle.cf_pool.specs.ModifiedUtf8.{IsUnit, encoded_unit, AreUnitsOf, BeginNoUnit, IsBadUnit};
 ghost use Rattle.cf_pool.specs.ConstantPool.{Names, IsTextFault};
 
 use crate::fault::{PoolFault, What, fault_at};
@@ -21,7 +21,7 @@ fn low_bits(byte: u8) -> Option<u16>
 /// The unit of two bytes of which the first, with these five bits, was read.
 fn two_byte_unit(high: u16, bytes: &[u8]) -> Option<(u16, &[u8])>
     requires { high < 32 }
-    ensures found { IfSome result (λ r. IsUnit r.0 × ((0xc0 + high) ∷ bytes.now ≡ unit_text r.0 ++ r.1.now)) }
+    ensures found { IfSome result (λ r. IsUnit r.0 × ((0xc0 + high) ∷ bytes.now ≡ encoded_unit r.0 ++ r.1.now)) }
     ensures none { IfNone result (BeginNoUnit ((0xc0 + high) ∷ bytes.now)) }
 {
     let (second, rest) = bytes.split_first()?;
@@ -35,7 +35,7 @@ fn two_byte_unit(high: u16, bytes: &[u8]) -> Option<(u16, &[u8])>
 /// The unit of three bytes of which the first, with these four bits, was read.
 fn three_byte_unit(high: u16, bytes: &[u8]) -> Option<(u16, &[u8])>
     requires { high < 16 }
-    ensures found { IfSome result (λ r. IsUnit r.0 × ((0xe0 + high) ∷ bytes.now ≡ unit_text r.0 ++ r.1.now)) }
+    ensures found { IfSome result (λ r. IsUnit r.0 × ((0xe0 + high) ∷ bytes.now ≡ encoded_unit r.0 ++ r.1.now)) }
     ensures none { IfNone result (BeginNoUnit ((0xe0 + high) ∷ bytes.now)) }
 {
     let (second, rest) = bytes.split_first()?;
@@ -50,7 +50,7 @@ fn three_byte_unit(high: u16, bytes: &[u8]) -> Option<(u16, &[u8])>
 
 /// The unit that the bytes begin with, and what follows it.
 fn unit_at(bytes: &[u8]) -> Option<(u16, &[u8])>
-    ensures found { IfSome result (λ r. IsUnit r.0 × (bytes.now ≡ unit_text r.0 ++ r.1.now)) }
+    ensures found { IfSome result (λ r. IsUnit r.0 × (bytes.now ≡ encoded_unit r.0 ++ r.1.now)) }
     ensures none { IfNone result (BeginNoUnit bytes.now) }
     ensures shorter { IfSome result (λ r. length r.1.now < length bytes.now) }
 {
@@ -67,7 +67,7 @@ fn unit_at(bytes: &[u8]) -> Option<(u16, &[u8])>
 /// the first byte of the first unit that is not spelled as it must be.
 pub fn units_of(alloc: Global, bytes: &[u8]) -> Result<List<u16>, PoolFault>
     ensures found { IfOk result (λ units. AreUnitsOf bytes.now units) }
-    ensures bad { IfErr result (Names (IsTextFault bytes.now)) }
+    ensures fault { IfErr result (Names (IsTextFault bytes.now)) }
     ensures outside { IfErr result (Names (λ _. (units : list_of ℕ) → AreUnitsOf bytes.now units → ⊥)) }
 {
     let mut units = List::new(alloc);
@@ -76,9 +76,7 @@ pub fn units_of(alloc: Global, bytes: &[u8]) -> Result<List<u16>, PoolFault>
         let Some((unit, after)) = unit_at(rest) else {
             return Err(fault_at(bytes.len() - rest.len(), What::BadUtf8));
         };
-        if units.push(unit).is_err() {
-            return Err(PoolFault::NoMemory);
-        }
+        units.add(unit)?;
         rest = after;
     }
     Ok(units)

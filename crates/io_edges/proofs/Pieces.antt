@@ -1,5 +1,6 @@
 -- Writes one after another, where the written bytes are told or not.
-use Rattle.std.proofs.Common.{ℕ, ◌+◌, ◌≤◌, min, List, ◌++◌, length, take, Option, None, Some, refl, sym, ◌∙◌, ap, subst, append_assoc, arith}
+use Rattle.std.proofs.Common.{ℕ, ◌+◌, ◌≤◌, min, List, ◌++◌, length, take, Option, None, Some, refl, sym, ◌∙◌, ap, subst}
+use Rattle.std.proofs.Common.{append_assoc, arith}
 use Rattle.std.proofs.lemmas.List.{append-nil, take-append-le, take_min}
 use Rattle.std.proofs.Math.Seq.{take-append-add}
 use Rattle.std.specs.Option.{option_map}
@@ -19,9 +20,13 @@ Holds-then (Some bytes) b c p q first next =
     next ∙ (ap (option_map (λ (x : List ℕ). x ++ q)) first ∙ ap Some (append_assoc bytes p q))
 
 -- a piece and then a front of another are a front of both
-pub HoldsFront-then : (a b c : Option (List ℕ)) (p q : List ℕ) → Holds a p b → HoldsFront b q c → HoldsFront a (p ++ q) c
-HoldsFront-then a b c p q first next =
-    (length p + next.0, subst (λ (x : List ℕ). Holds a x c) (sym (take-append-add p q next.0)) (Holds-then a b c p (take next.0 q) first next.1))
+pub HoldsFront-then : (a b c : Option (List ℕ)) (p q : List ℕ) → Holds a p b → HoldsFront b q c
+    → HoldsFront a (p ++ q) c
+HoldsFront-then a b c p q first next = (
+  length p + next.0,
+  subst (λ (x : List ℕ). Holds a x c) (sym (take-append-add p q next.0))
+      (Holds-then a b c p (take next.0 q) first next.1),
+)
 
 -- a front of a piece is a front of it and more
 pub HoldsFront-more : (a b : Option (List ℕ)) (p q : List ℕ) → HoldsFront a p b → HoldsFront a (p ++ q) b
@@ -31,7 +36,8 @@ HoldsFront-more a b p q front =
     (n, subst (λ (x : List ℕ). Holds a x b) (sym (take_min front.0 p) ∙ sym (take-append-le n p q within)) front.1)
 
 -- a write that is done and then another are one write, of both pieces
-pub Adds-then : (a b c : Option (List ℕ)) (p q : List ℕ) (put : Put) → Adds a p Done b → Adds b q put c → Adds a (p ++ q) put c
+pub Adds-then : (a b c : Option (List ℕ)) (p q : List ℕ) (put : Put) → Adds a p Done b → Adds b q put c
+    → Adds a (p ++ q) put c
 Adds-then a b c p q Done first next = Holds-then a b c p q first next
 Adds-then a b c p q Failed first next = HoldsFront-then a b c p q first next
 

@@ -1,5 +1,5 @@
 // A folder as its readers see it: files by path, and a count of the reads that failed.
-ghost use Rattle.std.specs.Prelude.{◌≡◌, ◌≤◌, ◌<◌, ◌^◌, ℕ, List as list_of, Option};
+ghost use Rattle.std.specs.Prelude.{◌≡◌, ◌≢◌, ◌≤◌, ◌<◌, ◌^◌, ℕ, List as list_of, Option};
 ghost use Rattle.io_edges.specs.declared.folder.File.{File as file_of};
 ghost use Rattle.io_edges.specs.Faults.{Rose};
 ghost use Rattle.io_edges.specs.Folder.{Answers, Asks};
@@ -47,6 +47,7 @@ pub trait Folder {
         ensures asked { Asks (asked self.old) path.now result (asked self.new) }
         ensures later { count self.old ≤ count self.new }
         ensures failed { result ≡ Got.Failed → Rose (count self.old) (count self.new) }
+        ensures others { result ≢ Got.Failed → count self.new ≡ count self.old }
         ensures answer { Answers (files self.old) path.now result };
 
     /// The count of the reads that failed.

@@ -7,7 +7,7 @@ ghost use Rattle.io_edges.specs.Folder.{answer_of, file_at, Asks, IsAnswer};
 use crate::folder::LONGEST_FILE;
 use crate::{File, Got};
 use jv_base::{List, Mem, Name};
-use std::alloc::{AllocError, Global};
+use std::alloc::Global;
 
 #[derive(Drop)]
 pub(crate) struct Known {
@@ -28,8 +28,7 @@ fn content(alloc: Global, file: &File) -> Mem<Got>
     if file.bytes.length() > LONGEST_FILE {
         return Ok(Got::TooLong);
     }
-    let bytes = file.bytes.as_slice().to_vec(alloc)?;
-    Ok(Got::Found(List::from_vec(bytes)))
+    Ok(Got::Found(List::copied(alloc, file.bytes.as_slice())?))
 }
 
 fn answer(alloc: Global, files: &List<File>, path: &str) -> Mem<Got>
@@ -47,10 +46,7 @@ fn note(asked: &mut List<Name>, alloc: Global, path: &str) -> Mem<()>
     ensures unchanged { OnErr result (asked.new ≡ asked.old) }
 {
     let path = Name::from_text(alloc, path)?;
-    match asked.push(path) {
-        Ok(()) => Ok(()),
-        Err(_) => Err(AllocError),
-    }
+    asked.add(path)
 }
 
 impl Known {

@@ -10,8 +10,6 @@ mod mem_sink;
 mod output;
 mod sink;
 mod sure_folder;
-#[cfg(test)]
-mod tests;
 
 pub use disk::DiskFolder;
 pub use folder::{File, Folder, Got};

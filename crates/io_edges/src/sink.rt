@@ -22,7 +22,8 @@ pub trait Sink {
     fn put(&mut self, bytes: &[u8]) -> Put
         ensures written { Adds (written self.old) bytes.now result (written self.new) }
         ensures later { count self.old ≤ count self.new }
-        ensures failed { result ≡ Put.Failed → Rose (count self.old) (count self.new) };
+        ensures failed { result ≡ Put.Failed → Rose (count self.old) (count self.new) }
+        ensures others { result ≡ Put.Done → count self.new ≡ count self.old };
 
     /// Each count is a `u64`.
     ghost count_fits: { (sink : Self) → count sink < 2 ^ 64 };

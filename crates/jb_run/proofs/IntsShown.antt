@@ -1,5 +1,6 @@
 -- Each assignment shows one int at each word.
-use Rattle.std.proofs.Common.{◌≡◌, ◌<◌, ◌≤◌, ◌+◌, ◌*◌, ◌^◌, ◌%◌, ◌-◌, ◌↔◌, inl, inr, ℕ, zero, suc, ℤ, Bool, true, false, List, [], ◌∷◌, refl, sym, ap, ◌∙◌, subst, arith, Fits}
+use Rattle.std.proofs.Common.{◌≡◌, ◌<◌, ◌≤◌, ◌+◌, ◌*◌, ◌^◌, ◌%◌, ◌-◌, ◌↔◌, inl, inr, ℕ, zero, suc, ℤ, Bool, true, false}
+use Rattle.std.proofs.Common.{List, [], ◌∷◌, refl, sym, ap, ◌∙◌, subst, arith, Fits}
 use Rattle.std.specs.Prelude.{IsTrue}
 use Rattle.std.specs.Int.{IsBitSet, cast_unsigned, cast_signed, w32}
 use Rattle.std.specs.Int as int
@@ -8,13 +9,13 @@ use Rattle.std.proofs.lemmas.Int.{of_z-to_z}
 use Rattle.std.proofs.lemmas.Nat.Bits.{bit_at_cat_low, bit_at_cat_high, bit_at_lowest}
 use Rattle.std.proofs.Math.Facts.{sfits_to_z}
 use Rattle.std.proofs.Math.Nat.{pow-succ'}
-use Rattle.jb_run.specs.declared.word.Word.{Word}
+use Rattle.jb_run.specs.declared.int_bits.IntBits.{IntBits}
 use Rattle.jb_run.specs.Satisfies.{Agrees}
 use Rattle.jb_run.specs.Gate.{bit_at, bit_of}
-use Rattle.jb_run.specs.Shown.{ShowsInt, ShowInts, IsWordBelow, AreWordsBelow}
+use Rattle.jb_run.specs.Shown.{ShowsInt, ShowInts, IsIntBelow, AreIntsBelow}
 use Rattle.jb_run.proofs.Defined.{bit_agree}
-use Rattle.jb_run.proofs.WordInts.{ints_from_bits}
-use Rattle.jb_run.proofs.WordValues.{number, bit_from}
+use Rattle.jb_run.proofs.IntBitsInts.{ints_from_bits}
+use Rattle.jb_run.proofs.IntBitsValues.{number, bit_from}
 
 number_below : (value : Bool) → number value ≤ 1
 number_below true = omega arith
@@ -49,47 +50,55 @@ pattern_bits bits (suc k) i below =
           ∙ bit_at_lowest (number (bits k))
           ∙ number_rest (bits k)
           ∙ sym (ap (λ (j : ℕ). number (bits j)) same)
-      | inr ne ↦ bit_at_cat_low (number (bits k)) k (pattern bits k) i (omega (arith, ne)) ∙ pattern_bits bits k i (omega (arith, ne))
+      | inr ne ↦ bit_at_cat_low (number (bits k)) k (pattern bits k) i (omega (arith, ne))
+          ∙ pattern_bits bits k i (omega (arith, ne))
     ]
 
 -- the int that a word shows
-shown : (a : ℕ → Bool) (word : Word) → (n : ℤ) × ShowsInt a word n
+shown : (a : ℕ → Bool) (word : IntBits) → (n : ℤ) × ShowsInt a word n
 shown a word =
     let bits = pattern (bit_of a word) 32 in
     let below : bits < 2 ^ 32 = pattern_below (bit_of a word) 32 in (
       cast_signed w32 bits,
       record {
-        bits = λ k inside. subst (λ (p : ℕ). IsTrue (bit_of a word k) ↔ IsBitSet p k) (sym (of_z-to_z w32 bits below)) (bit_from (bit_of a word k) bits k (pattern_bits (bit_of a word) 32 k inside));
+        bits = λ k inside. subst (λ (p : ℕ). IsTrue (bit_of a word k) ↔ IsBitSet p k) (sym (of_z-to_z w32 bits below))
+            (bit_from (bit_of a word k) bits k (pattern_bits (bit_of a word) 32 k inside));
         fits = sfits_to_z (let f : Fits w32 bits = omega (arith, below) in f);
       },
     )
 
 -- the ints that words show
-pub ints_shown : (a : ℕ → Bool) (words : List Word) → (ints : List ℤ) × ShowInts a words ints
+pub ints_shown : (a : ℕ → Bool) (words : List IntBits) → (ints : List ℤ) × ShowInts a words ints
 ints_shown a [] = ([], tt)
 ints_shown a (word ∷ words) =
     let first = shown a word in
     let rest = ints_shown a words in
     (first.0 ∷ rest.0, (first.1, rest.1))
 
-pub int_agrees : (n : ℕ) (a b : ℕ → Bool) (word : Word) (i : ℤ) → Agrees n a b → IsWordBelow n word → ShowsInt a word i → ShowsInt b word i
+pub int_agrees : (n : ℕ) (a b : ℕ → Bool) (word : IntBits) (i : ℤ) → Agrees n a b → IsIntBelow n word
+    → ShowsInt a word i → ShowsInt b word i
 int_agrees n a b word i agrees below shows = record {
-  bits = λ k inside. subst (λ (t : Bool). IsTrue t ↔ IsBitSet (cast_unsigned w32 i) k) (bit_agree n a b (bit_at word k) agrees (below k inside)) (shows.bits k inside);
+  bits = λ k inside. subst (λ (t : Bool). IsTrue t ↔ IsBitSet (cast_unsigned w32 i) k)
+      (bit_agree n a b (bit_at word k) agrees (below k inside)) (shows.bits k inside);
   fits = shows.fits;
 }
 
 -- assignments that agree on the words' variables show the same ints
-pub ints_agree : (n : ℕ) (a b : ℕ → Bool) (words : List Word) (ints : List ℤ) → Agrees n a b → AreWordsBelow n words → ShowInts a words ints → ShowInts b words ints
+pub ints_agree : (n : ℕ) (a b : ℕ → Bool) (words : List IntBits) (ints : List ℤ) → Agrees n a b → AreIntsBelow n words
+    → ShowInts a words ints → ShowInts b words ints
 ints_agree n a b [] [] agrees below shows = tt
-ints_agree n a b (word ∷ words) (i ∷ ints) agrees below shows = (int_agrees n a b word i agrees below.0 shows.0, ints_agree n a b words ints agrees below.1 shows.1)
+ints_agree n a b (word ∷ words) (i ∷ ints) agrees below shows =
+    (int_agrees n a b word i agrees below.0 shows.0, ints_agree n a b words ints agrees below.1 shows.1)
 ints_agree n a b [] (i ∷ ints) agrees below shows = absurd shows
 ints_agree n a b (word ∷ words) [] agrees below shows = absurd shows
 
 -- an assignment shows one list of ints
-pub ints_once : (a : ℕ → Bool) (words : List Word) (first second : List ℤ) → ShowInts a words first → ShowInts a words second → first ≡ second
+pub ints_once : (a : ℕ → Bool) (words : List IntBits) (first second : List ℤ) → ShowInts a words first
+    → ShowInts a words second → first ≡ second
 ints_once a [] [] [] shows also = refl
 ints_once a (word ∷ words) (x ∷ first) (y ∷ second) shows also =
-    let head : x ≡ y = ints_from_bits a word word x y shows.0.fits also.0.fits shows.0.bits also.0.bits (λ k inside. refl) in
+    let head : x ≡ y = ints_from_bits a word word x y shows.0.fits also.0.fits shows.0.bits also.0.bits
+    (λ k inside. refl) in
     ap (λ (z : ℤ). z ∷ first) head ∙ ap (λ (zs : List ℤ). y ∷ zs) (ints_once a words first second shows.1 also.1)
 ints_once a [] (x ∷ first) second shows also = absurd shows
 ints_once a [] [] (y ∷ second) shows also = absurd also

@@ -2,7 +2,8 @@
 use Rattle.std.proofs.Common.{◌≡◌, ℕ, pos, negsuc, List, [], ◌∷◌, Some, None, refl}
 use Rattle.jv_base.specs.declared.method.Kind.TheVariants.{Null}
 use Rattle.jv_base.specs.declared.value.Value.TheVariants.{Int, Ref}
-use Rattle.cf_class.specs.declared.instr.ThinInstr.TheVariants.{Iload, Istore, Ixor, Ifeq, Ifne, IfIcmpeq, IfIcmpne, Ireturn, Athrow}
+use Rattle.cf_class.specs.declared.instr.ThinInstr.TheVariants.{Iload, Istore, Ixor, Ifeq, Ifne, IfIcmpeq, IfIcmpne}
+use Rattle.cf_class.specs.declared.instr.ThinInstr.TheVariants.{Ireturn, Athrow}
 use Rattle.cf_class.specs.Instr.{instr_at, first_instr, format_of, opcodes}
 use Rattle.jb_run.specs.declared.machine.State.{State}
 use Rattle.jb_run.specs.declared.machine.Outcome.TheVariants.{Next, Raised, Stuck}
@@ -18,7 +19,8 @@ sample_at pc = record sample { pc = pc; stack = [] }
 pub xor_is : step_of Ixor 11 sample ≡ Next (record sample { pc = 11; stack = Int (negsuc 5) ∷ [] })
 xor_is = refl
 
-pub load_is : step_of (Iload 0) 12 sample ≡ Next (record sample { pc = 12; stack = Int (pos 5) ∷ Int (negsuc 0) ∷ Int (pos 7) ∷ [] })
+pub load_is : step_of (Iload 0) 12 sample ≡ Next
+    (record sample { pc = 12; stack = Int (pos 5) ∷ Int (negsuc 0) ∷ Int (pos 7) ∷ [] })
 load_is = refl
 
 pub load_of_nothing_is : step_of (Iload 1) 12 sample ≡ Stuck
@@ -27,10 +29,16 @@ load_of_nothing_is = refl
 pub load_past_end_is : step_of (Iload 2) 12 sample ≡ Stuck
 load_past_end_is = refl
 
-pub store_is : step_of (Istore 3) 12 sample ≡ Next (record { pc = 12; locals = Some (Int (pos 7)) ∷ None ∷ None ∷ Some (Int (negsuc 0)) ∷ []; stack = Int (pos 5) ∷ [] })
+pub store_is : step_of (Istore 3) 12 sample ≡ Next
+    (record {
+      pc = 12;
+      locals = Some (Int (pos 7)) ∷ None ∷ None ∷ Some (Int (negsuc 0)) ∷ [];
+      stack = Int (pos 5) ∷ [];
+    })
 store_is = refl
 
-pub store_over_is : step_of (Istore 0) 12 sample ≡ Next (record { pc = 12; locals = Some (Int (negsuc 0)) ∷ None ∷ []; stack = Int (pos 5) ∷ [] })
+pub store_over_is : step_of (Istore 0) 12 sample ≡ Next
+    (record { pc = 12; locals = Some (Int (negsuc 0)) ∷ None ∷ []; stack = Int (pos 5) ∷ [] })
 store_over_is = refl
 
 pub not_equal_is : step_of (IfIcmpne 40) 13 sample ≡ Next (sample_at 40)
@@ -59,16 +67,19 @@ abbrev equal_ints : List ℕ
 equal_ints = 0x1a ∷ 0x1b ∷ 0xa0 ∷ 0 ∷ 5 ∷ 1 ∷ 0xbf ∷ 0xb1 ∷ []
 
 -- with 7 and 7, the fifth step raises null at 6
-pub sevens_reach : after equal_ints 4 (start (pos 7 ∷ pos 7 ∷ [])) ≡ Some (record { pc = 6; locals = Some (Int (pos 7)) ∷ Some (Int (pos 7)) ∷ []; stack = Ref None ∷ [] })
+pub sevens_reach : after equal_ints 4 (start (pos 7 ∷ pos 7 ∷ [])) ≡ Some
+    (record { pc = 6; locals = Some (Int (pos 7)) ∷ Some (Int (pos 7)) ∷ []; stack = Ref None ∷ [] })
 unfolding after step instr_at first_instr format_of opcodes
 sevens_reach = refl
 
-pub sevens_raise : step equal_ints (record { pc = 6; locals = Some (Int (pos 7)) ∷ Some (Int (pos 7)) ∷ []; stack = Ref None ∷ [] }) ≡ Raised Null
+pub sevens_raise : step equal_ints
+    (record { pc = 6; locals = Some (Int (pos 7)) ∷ Some (Int (pos 7)) ∷ []; stack = Ref None ∷ [] }) ≡ Raised Null
 unfolding step instr_at first_instr format_of opcodes
 sevens_raise = refl
 
 -- with 7 and 1, the run comes to the end of the code, and returns
-pub others_reach : after equal_ints 3 (start (pos 7 ∷ pos 1 ∷ [])) ≡ Some (record { pc = 7; locals = Some (Int (pos 7)) ∷ Some (Int (pos 1)) ∷ []; stack = [] })
+pub others_reach : after equal_ints 3 (start (pos 7 ∷ pos 1 ∷ [])) ≡ Some
+    (record { pc = 7; locals = Some (Int (pos 7)) ∷ Some (Int (pos 1)) ∷ []; stack = [] })
 unfolding after step instr_at first_instr format_of opcodes
 others_reach = refl
 

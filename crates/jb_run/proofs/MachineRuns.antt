@@ -1,6 +1,7 @@
 -- Runs of thin code: one step more, at most one end, and no more steps than the code has bytes.
-use Rattle.std.proofs.Common.{◌≡◌, ◌-◌, ◌<◌, ◌≤◌, ◌↔◌, ◌⊎◌, inl, inr, ℕ, zero, suc, ℤ, pos, List, [], ◌∷◌, ◌++◌, length, Option, Some, None, refl, sym, ap, ◌∙◌, subst, arith}
-use Rattle.std.proofs.Common.{Bool, true, false, if◌then◌else◌}
+use Rattle.std.proofs.Common.{◌≡◌, ◌-◌, ◌<◌, ◌≤◌, ◌↔◌, ◌⊎◌, inl, inr, ℕ, zero, suc, ℤ, pos, List, [], ◌∷◌, ◌++◌, length}
+use Rattle.std.proofs.Common.{Option, Some, None, refl, sym, ap, ◌∙◌, subst, arith}
+use Rattle.std.proofs.Common.{if◌then◌else◌}
 use Rattle.std.specs.Int.{w32, int_bit_xor}
 use Rattle.std.specs.Ordering.{int_eq}
 use Rattle.std.proofs.lemmas.Option.{some_pair_parts}
@@ -9,20 +10,25 @@ use Rattle.jv_base.specs.declared.method.Kind.TheVariants.{Null}
 use Rattle.jv_base.specs.declared.value.Value.{Value}
 use Rattle.jv_base.specs.declared.value.Value.TheVariants.{Int, Long, Ref}
 use Rattle.cf_class.specs.declared.instr.ThinInstr.{ThinInstr}
-use Rattle.cf_class.specs.declared.instr.ThinInstr.TheVariants.{AconstNull, Iconst, Iload, Istore, Ixor, Ifeq, Ifne, IfIcmpeq, IfIcmpne, Goto, Ireturn, Return, Athrow}
+use Rattle.cf_class.specs.declared.instr.ThinInstr.TheVariants.{AconstNull, Iconst, Iload, Istore, Ixor, Ifeq, Ifne}
+use Rattle.cf_class.specs.declared.instr.ThinInstr.TheVariants.{IfIcmpeq, IfIcmpne, Goto, Ireturn, Return, Athrow}
 use Rattle.cf_class.specs.Instr.{instr_at}
 use Rattle.cf_class.specs.ThinCode.{target_of}
-use Rattle.cf_class.proofs.Opcodes.{instr_ends, target_forward}
+use Rattle.cf_class.specs.Laws.{GoForward}
 use Rattle.jb_run.specs.declared.machine.State.{State}
 use Rattle.jb_run.specs.declared.machine.Outcome.{Outcome}
 use Rattle.jb_run.specs.declared.machine.Outcome.TheVariants.{Next, Raised, Ended, Stuck}
-use Rattle.jb_run.specs.Machine.{int_inside, with_int, with_ints, goes_to, push, load, store, exclusive_or, branch_on_zero, branch_on_equal, throw, give, step_of, step_found, step, on_next, after, start}
+use Rattle.jb_run.specs.Machine.{int_inside, with_int, with_ints, goes_to, push, load, store, exclusive_or}
+use Rattle.jb_run.specs.Machine.{branch_on_zero, branch_on_equal, throw, give, step_of, step_found, step, on_next}
+use Rattle.jb_run.specs.Machine.{after, start}
 use Rattle.jb_run.specs.Locals.{local_at, with_local}
 use Rattle.jb_run.specs.Stack.{top, below}
 use Rattle.jb_run.specs.Violates.{RunViolates}
+use Rattle.std.proofs.lemmas.Bool.{cond_both}
 
 -- a step by the instruction at the pc
-pub step_some : (code : List ℕ) (state : State) (instr : ThinInstr) (next : ℕ) → instr_at code state.pc ≡ Some (instr, next) → step code state ≡ step_of instr next state
+pub step_some : (code : List ℕ) (state : State) (instr : ThinInstr) (next : ℕ)
+    → instr_at code state.pc ≡ Some (instr, next) → step code state ≡ step_of instr next state
 unfolding step
 step_some code state instr next is = ap (λ found. step_found found state) is
 
@@ -54,7 +60,8 @@ int_rises : (pc : ℕ) (o : Option ℤ) (go : ℤ → Outcome) → ((n : ℤ) �
 int_rises pc None go each = stuck_rises pc
 int_rises pc (Some n) go each = each n
 
-ints_rises : (pc : ℕ) (o p : Option ℤ) (go : ℤ → ℤ → Outcome) → ((a b : ℤ) → Rises pc (go a b)) → Rises pc (with_ints o p go)
+ints_rises : (pc : ℕ) (o p : Option ℤ) (go : ℤ → ℤ → Outcome) → ((a b : ℤ) → Rises pc (go a b))
+    → Rises pc (with_ints o p go)
 ints_rises pc None p go each = stuck_rises pc
 ints_rises pc (Some a) None go each = stuck_rises pc
 ints_rises pc (Some a) (Some b) go each = each a b
@@ -66,35 +73,40 @@ throw_rises pc (Some (Long n)) = stuck_rises pc
 throw_rises pc (Some (Ref None)) = raised_rises pc Null
 throw_rises pc (Some (Ref (Some n))) = stuck_rises pc
 
--- one of two pcs above a pc
-one_above : (b : Bool) (pc x y : ℕ) → pc < x → pc < y → pc < (if b then x else y)
-one_above true pc x y first second = first
-one_above false pc x y first second = second
-
 on_zero_rises : (x y : ℕ) (old : State) → old.pc < x → old.pc < y → Rises old.pc (branch_on_zero x y old)
 on_zero_rises x y old first second =
-    int_rises old.pc (int_inside (top old.stack)) (λ n. goes_to old (if int_eq n (pos 0) then x else y) (below old.stack)) (λ n. goes_rises old.pc _ (one_above (int_eq n (pos 0)) old.pc x y first second))
+    int_rises old.pc (int_inside (top old.stack))
+    (λ n. goes_to old (if int_eq n (pos 0) then x else y) (below old.stack))
+    (λ n. goes_rises old.pc _ (cond_both (int_eq n (pos 0)) x y (λ (k : ℕ). old.pc < k) (λ e. first) (λ e. second)))
 
 on_equal_rises : (x y : ℕ) (old : State) → old.pc < x → old.pc < y → Rises old.pc (branch_on_equal x y old)
 on_equal_rises x y old first second =
-    ints_rises old.pc (int_inside (top (below old.stack))) (int_inside (top old.stack)) (λ a b. goes_to old (if int_eq a b then x else y) (below (below old.stack))) (λ a b. goes_rises old.pc _ (one_above (int_eq a b) old.pc x y first second))
+    ints_rises old.pc (int_inside (top (below old.stack))) (int_inside (top old.stack))
+    (λ a b. goes_to old (if int_eq a b then x else y) (below (below old.stack)))
+    (λ a b. goes_rises old.pc _ (cond_both (int_eq a b) x y (λ (k : ℕ). old.pc < k) (λ e. first) (λ e. second)))
 
 load_rises : (index next : ℕ) (old : State) → old.pc < next → Rises old.pc (load index next old)
 load_rises index next old falls =
-    int_rises old.pc (int_inside (local_at old.locals index)) (λ n. push (Int n) next old) (λ n. goes_rises old.pc _ falls)
+    int_rises old.pc (int_inside (local_at old.locals index)) (λ n. push (Int n) next old)
+    (λ n. goes_rises old.pc _ falls)
 
 store_rises : (index next : ℕ) (old : State) → old.pc < next → Rises old.pc (store index next old)
 store_rises index next old falls =
-    int_rises old.pc (int_inside (top old.stack)) (λ n. Next (record { pc = next; locals = with_local old.locals index (Int n); stack = below old.stack })) (λ n. goes_rises old.pc _ falls)
+    int_rises old.pc (int_inside (top old.stack))
+    (λ n. Next (record { pc = next; locals = with_local old.locals index (Int n); stack = below old.stack }))
+    (λ n. goes_rises old.pc _ falls)
 
 xor_rises : (next : ℕ) (old : State) → old.pc < next → Rises old.pc (exclusive_or next old)
 xor_rises next old falls =
-    ints_rises old.pc (int_inside (top (below old.stack))) (int_inside (top old.stack)) (λ a b. goes_to old next (below (below old.stack) ++ Int (int_bit_xor w32 a b) ∷ [])) (λ a b. goes_rises old.pc _ falls)
+    ints_rises old.pc (int_inside (top (below old.stack))) (int_inside (top old.stack))
+    (λ a b. goes_to old next (below (below old.stack) ++ Int (int_bit_xor w32 a b) ∷ []))
+    (λ a b. goes_rises old.pc _ falls)
 
 give_rises : (old : State) → Rises old.pc (give old)
 give_rises old = int_rises old.pc (int_inside (top old.stack)) (λ n. Ended) (λ n. ended_rises old.pc)
 
-step_of_rises : (instr : ThinInstr) (next : ℕ) (old : State) → old.pc < next → ((target : ℕ) → target_of instr ≡ Some target → old.pc < target) → Rises old.pc (step_of instr next old)
+step_of_rises : (instr : ThinInstr) (next : ℕ) (old : State) → old.pc < next
+    → ((target : ℕ) → target_of instr ≡ Some target → old.pc < target) → Rises old.pc (step_of instr next old)
 step_of_rises AconstNull next old falls jumps = goes_rises old.pc _ falls
 step_of_rises (Iconst n) next old falls jumps = goes_rises old.pc _ falls
 step_of_rises (Iload index) next old falls jumps = load_rises index next old falls
@@ -110,22 +122,26 @@ step_of_rises Return next old falls jumps = ended_rises old.pc
 step_of_rises Athrow next old falls jumps = throw_rises old.pc (top old.stack)
 
 -- a step that goes on begins in the code, and the pc rises
-pub step_rises : (code : List ℕ) (old new : State) → step code old ≡ Next new → (old.pc < length code) × (old.pc < new.pc)
-step_rises code old new is =
+pub step_rises : GoForward → (code : List ℕ) (old new : State) → step code old ≡ Next new
+    → (old.pc < length code) × (old.pc < new.pc)
+step_rises forward code old new is =
     elim (instr_at code old.pc) as (λ o. instr_at code old.pc ≡ o → (old.pc < length code) × (old.pc < new.pc)) [
       | None ↦ λ none. let stuck = step_none code old none in absurd cc
       | Some found ↦ λ some.
-          let ends = instr_ends code old.pc found.0 found.1 some in (
-            omega (arith, ends.0, ends.1),
-            (step_of_rises found.0 found.1 old ends.0 (λ target to. target_forward code old.pc found.1 target found.0 some to)).rises new (sym (step_some code old found.0 found.1 some) ∙ is),
+          let goes = forward code old.pc found.0 found.1 some in (
+            omega (arith, goes.ends, goes.within),
+            (step_of_rises found.0 found.1 old goes.ends goes.jumps).rises new
+                (sym (step_some code old found.0 found.1 some) ∙ is),
           )
     ] refl
 
 -- the first of some steps
-pub after_first : (code : List ℕ) (n : ℕ) (from to : State) → after code (suc n) from ≡ Some to → (next : State) × (step code from ≡ Next next) × (after code n next ≡ Some to)
+pub after_first : (code : List ℕ) (n : ℕ) (from to : State) → after code (suc n) from ≡ Some to
+    → (next : State) × (step code from ≡ Next next) × (after code n next ≡ Some to)
 unfolding after
 after_first code n from to is =
-    elim (step code from) as (λ o. step code from ≡ o → on_next o (after code n) ≡ Some to → (next : State) × (step code from ≡ Next next) × (after code n next ≡ Some to)) [
+    elim (step code from) as (λ o. step code from ≡ o → on_next o (after code n) ≡ Some to
+    → (next : State) × (step code from ≡ Next next) × (after code n next ≡ Some to)) [
       | Next next ↦ λ goes is. (next, goes, is)
       | Raised kind ↦ λ goes is. absurd cc
       | Ended ↦ λ goes is. absurd cc
@@ -136,12 +152,14 @@ pub after_none : (code : List ℕ) (state : State) → after code 0 state ≡ So
 unfolding after
 after_none code state = refl
 
-pub after_suc : (code : List ℕ) (n : ℕ) (from next : State) → step code from ≡ Next next → after code (suc n) from ≡ after code n next
+pub after_suc : (code : List ℕ) (n : ℕ) (from next : State) → step code from ≡ Next next
+    → after code (suc n) from ≡ after code n next
 unfolding after
 after_suc code n from next is = ap (λ o. on_next o (after code n)) is
 
 -- one step more
-pub after_more : (code : List ℕ) (n : ℕ) (from to next : State) → after code n from ≡ Some to → step code to ≡ Next next → after code (suc n) from ≡ Some next
+pub after_more : (code : List ℕ) (n : ℕ) (from to next : State) → after code n from ≡ Some to → step code to ≡ Next next
+    → after code (suc n) from ≡ Some next
 after_more code zero from to next is goes =
     let same : from ≡ to = (let e = after_none code from in cc) in
     after_suc code 0 from next (ap (step code) same ∙ goes) ∙ after_none code next
@@ -154,7 +172,8 @@ pub record Stops (code : List ℕ) (state : State) : Type 0 where
   pub stops : (next : State) → step code state ≡ Next next → ⊥
 
 -- a run stops at one state alone
-pub stops_once : (code : List ℕ) (n m : ℕ) (from a b : State) → after code n from ≡ Some a → Stops code a → after code m from ≡ Some b → Stops code b → a ≡ b
+pub stops_once : (code : List ℕ) (n m : ℕ) (from a b : State) → after code n from ≡ Some a → Stops code a
+    → after code m from ≡ Some b → Stops code b → a ≡ b
 stops_once code zero zero from a b first ends second ends_too = let e = after_none code from in cc
 stops_once code zero (suc m) from a b first ends second ends_too =
     let e : from ≡ a = (let e = after_none code from in cc) in
@@ -171,29 +190,35 @@ stops_once code (suc n) (suc m) from a b first ends second ends_too =
     stops_once code n m one.0 a b one.2 ends (ap (after code m) same ∙ other.2) ends_too
 
 -- a run of thin code has no more steps than there are bytes from its pc on
-pub steps_left : (code : List ℕ) (n : ℕ) (from to : State) → after code n from ≡ Some to → n ≤ length code - from.pc
-steps_left code zero from to is = omega arith
-steps_left code (suc n) from to is =
+pub steps_left : GoForward → (code : List ℕ) (n : ℕ) (from to : State) → after code n from ≡ Some to
+    → n ≤ length code - from.pc
+steps_left forward code zero from to is = omega arith
+steps_left forward code (suc n) from to is =
     let first = after_first code n from to is in
-    let rises = step_rises code from first.0 first.1 in
-    let rest = steps_left code n first.0 to first.2 in
+    let rises = step_rises forward code from first.0 first.1 in
+    let rest = steps_left forward code n first.0 to first.2 in
     omega (arith, rises.0, rises.1, rest)
 
 -- a run of thin code ends, after no more steps than the code has bytes
-pub run_ends : (code : List ℕ) (ints : List ℤ) (n : ℕ) (to : State) → after code n (start ints) ≡ Some to → n ≤ length code
-run_ends code ints n to is = omega (arith, steps_left code n (start ints) to is)
+pub run_ends : GoForward → (code : List ℕ) (ints : List ℤ) (n : ℕ) (to : State) → after code n (start ints) ≡ Some to
+    → n ≤ length code
+run_ends forward code ints n to is = omega (arith, steps_left forward code n (start ints) to is)
 
-some_pc : (pc pc' : ℕ) (kind kind' : Kind) → ◌≡◌ {A = Option (ℕ × Kind)} (Some (pc, kind)) (Some (pc', kind')) → pc ≡ pc'
+some_pc : (pc pc' : ℕ) (kind kind' : Kind) → ◌≡◌ {A = Option (ℕ × Kind)} (Some (pc, kind)) (Some (pc', kind'))
+    → pc ≡ pc'
 some_pc pc pc' kind kind' same = (some_pair_parts pc pc' kind kind' same).0
 
-some_kind : (pc pc' : ℕ) (kind kind' : Kind) → ◌≡◌ {A = Option (ℕ × Kind)} (Some (pc, kind)) (Some (pc', kind')) → kind ≡ kind'
+some_kind : (pc pc' : ℕ) (kind kind' : Kind) → ◌≡◌ {A = Option (ℕ × Kind)} (Some (pc, kind)) (Some (pc', kind'))
+    → kind ≡ kind'
 some_kind pc pc' kind kind' same = (some_pair_parts pc pc' kind kind' same).1
 
 raised_kind : (a b : Kind) → Raised a ≡ Raised b → a ≡ b
 raised_kind a b same = cc
 
 -- what a run violates that comes to an instruction that raises
-pub raised_is : (code : List ℕ) (ints : List ℤ) (n : ℕ) (state : State) (kind : Kind) → after code n (start ints) ≡ Some state → step code state ≡ Raised kind → (pc : ℕ) (kind' : Kind) → (◌≡◌ {A = Option (ℕ × Kind)} (Some (state.pc, kind)) (Some (pc, kind'))) ↔ RunViolates code ints pc kind'
+pub raised_is : (code : List ℕ) (ints : List ℤ) (n : ℕ) (state : State) (kind : Kind)
+    → after code n (start ints) ≡ Some state → step code state ≡ Raised kind → (pc : ℕ) (kind' : Kind)
+    → (◌≡◌ {A = Option (ℕ × Kind)} (Some (state.pc, kind)) (Some (pc, kind'))) ↔ RunViolates code ints pc kind'
 raised_is code ints n state kind at raises pc kind' = (
   λ same. record {
     steps = n;
@@ -203,25 +228,34 @@ raised_is code ints n state kind at raises pc kind' = (
     raised = raises ∙ ap (λ k. Raised k) (some_kind state.pc pc kind kind' same);
   },
   λ violates.
-      let same : state ≡ violates.state = stops_once code n violates.steps (start ints) state violates.state at (record { stops = λ next goes. absurd cc }) violates.reached (record { stops = λ next goes. (let r = violates.raised in absurd cc) }) in
+      let same : state ≡ violates.state =
+      stops_once code n violates.steps
+      (start ints) state violates.state at (record { stops = λ next goes. absurd cc }) violates.reached
+      (record { stops = λ next goes. (let r = violates.raised in absurd cc) }) in
       let kinds : kind ≡ kind' = raised_kind kind kind' (sym raises ∙ ap (step code) same ∙ violates.raised) in
       ap (λ p. Some (p, kind)) (ap (λ (s : State). s.pc) same ∙ violates.place) ∙ ap (λ k. Some (pc, k)) kinds,
 )
 
 -- a step that ends the run, or is stuck, is none that goes on or raises
-pub ended_stops : (code : List ℕ) (state : State) (o : Outcome) → o ≡ step code state → (o ≡ Ended) ⊎ (o ≡ Stuck) → Stops code state
+pub ended_stops : (code : List ℕ) (state : State) (o : Outcome) → o ≡ step code state → (o ≡ Ended) ⊎ (o ≡ Stuck)
+    → Stops code state
 ended_stops code state o is (inl ended) = record { stops = λ next goes. absurd cc }
 ended_stops code state o is (inr stuck) = record { stops = λ next goes. absurd cc }
 
-pub ended_quiet : (code : List ℕ) (state : State) (o : Outcome) → o ≡ step code state → (o ≡ Ended) ⊎ (o ≡ Stuck) → (kind : Kind) → step code state ≡ Raised kind → ⊥
+pub ended_quiet : (code : List ℕ) (state : State) (o : Outcome) → o ≡ step code state → (o ≡ Ended) ⊎ (o ≡ Stuck)
+    → (kind : Kind) → step code state ≡ Raised kind → ⊥
 ended_quiet code state o is (inl ended) kind raises = cc
 ended_quiet code state o is (inr stuck) kind raises = cc
 
 -- a run that ends without a fault violates nothing
-pub ended_is : (code : List ℕ) (ints : List ℤ) (n : ℕ) (state : State) → after code n (start ints) ≡ Some state → Stops code state → ((kind : Kind) → step code state ≡ Raised kind → ⊥) → (pc : ℕ) (kind : Kind) → (◌≡◌ {A = Option (ℕ × Kind)} None (Some (pc, kind))) ↔ RunViolates code ints pc kind
+pub ended_is : (code : List ℕ) (ints : List ℤ) (n : ℕ) (state : State) → after code n (start ints) ≡ Some state
+    → Stops code state → ((kind : Kind) → step code state ≡ Raised kind → ⊥) → (pc : ℕ) (kind : Kind)
+    → (◌≡◌ {A = Option (ℕ × Kind)} None (Some (pc, kind))) ↔ RunViolates code ints pc kind
 ended_is code ints n state at ends quiet pc kind = (
   λ same. absurd cc,
   λ violates.
-      let same : state ≡ violates.state = stops_once code n violates.steps (start ints) state violates.state at ends violates.reached (record { stops = λ next goes. (let r = violates.raised in absurd cc) }) in
+      let same : state ≡ violates.state =
+      stops_once code n violates.steps (start ints) state violates.state at ends violates.reached
+      (record { stops = λ next goes. (let r = violates.raised in absurd cc) }) in
       absurd (quiet kind (ap (step code) same ∙ violates.raised)),
 )

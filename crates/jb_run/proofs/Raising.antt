@@ -8,7 +8,8 @@ use Rattle.jv_base.specs.declared.method.Kind.TheVariants.{Null}
 use Rattle.jv_base.specs.declared.value.Value.{Value}
 use Rattle.jv_base.specs.declared.value.Value.TheVariants.{Int, Long, Ref}
 use Rattle.cf_class.specs.declared.instr.ThinInstr.{ThinInstr}
-use Rattle.cf_class.specs.declared.instr.ThinInstr.TheVariants.{AconstNull, Iconst, Iload, Istore, Ixor, Ifeq, Ifne, IfIcmpeq, IfIcmpne, Goto, Ireturn, Return, Athrow}
+use Rattle.cf_class.specs.declared.instr.ThinInstr.TheVariants.{AconstNull, Iconst, Iload, Istore, Ixor, Ifeq, Ifne}
+use Rattle.cf_class.specs.declared.instr.ThinInstr.TheVariants.{IfIcmpeq, IfIcmpne, Goto, Ireturn, Return, Athrow}
 use Rattle.jb_run.specs.declared.machine.State.{State}
 use Rattle.jb_run.specs.declared.machine.Outcome.{Outcome}
 use Rattle.jb_run.specs.declared.machine.Outcome.TheVariants.{Next, Raised, Ended, Stuck}
@@ -48,17 +49,29 @@ throw_null (Some (Ref (Some n))) = stuck_null
 each_null : (instr : ThinInstr) (next : ℕ) (state : State) → RaisesNull (step_of instr next state)
 each_null AconstNull next state = next_null _
 each_null (Iconst n) next state = next_null _
-each_null (Iload index) next state = int_null (int_inside (local_at state.locals index)) (λ n. push (Int n) next state) (λ n. next_null _)
-each_null (Istore index) next state = int_null (int_inside (top state.stack)) (λ n. Next (record { pc = next; locals = with_local state.locals index (Int n); stack = below state.stack })) (λ n. next_null _)
-each_null Ixor next state = ints_null (int_inside (top (below state.stack))) (int_inside (top state.stack)) (λ a b. goes_to state next (below (below state.stack) ++ Int (int_bit_xor w32 a b) ∷ [])) (λ a b. next_null _)
-each_null (Ifeq target) next state = int_null (int_inside (top state.stack)) (λ n. goes_to state (if int_eq n (pos 0) then target else next) (below state.stack)) (λ n. next_null _)
-each_null (Ifne target) next state = int_null (int_inside (top state.stack)) (λ n. goes_to state (if int_eq n (pos 0) then next else target) (below state.stack)) (λ n. next_null _)
-each_null (IfIcmpeq target) next state = ints_null (int_inside (top (below state.stack))) (int_inside (top state.stack)) (λ a b. goes_to state (if int_eq a b then target else next) (below (below state.stack))) (λ a b. next_null _)
-each_null (IfIcmpne target) next state = ints_null (int_inside (top (below state.stack))) (int_inside (top state.stack)) (λ a b. goes_to state (if int_eq a b then next else target) (below (below state.stack))) (λ a b. next_null _)
+each_null (Iload index) next state = int_null (int_inside (local_at state.locals index)) (λ n. push (Int n) next state)
+    (λ n. next_null _)
+each_null (Istore index) next state =
+    int_null (int_inside (top state.stack))
+    (λ n. Next (record { pc = next; locals = with_local state.locals index (Int n); stack = below state.stack }))
+    (λ n. next_null _)
+each_null Ixor next state = ints_null (int_inside (top (below state.stack))) (int_inside (top state.stack))
+    (λ a b. goes_to state next (below (below state.stack) ++ Int (int_bit_xor w32 a b) ∷ [])) (λ a b. next_null _)
+each_null (Ifeq target) next state =
+    int_null (int_inside (top state.stack)) (λ n. goes_to state (if int_eq n (pos 0) then target else next)
+    (below state.stack)) (λ n. next_null _)
+each_null (Ifne target) next state =
+    int_null (int_inside (top state.stack)) (λ n. goes_to state (if int_eq n (pos 0) then next else target)
+    (below state.stack)) (λ n. next_null _)
+each_null (IfIcmpeq target) next state = ints_null (int_inside (top (below state.stack))) (int_inside (top state.stack))
+    (λ a b. goes_to state (if int_eq a b then target else next) (below (below state.stack))) (λ a b. next_null _)
+each_null (IfIcmpne target) next state = ints_null (int_inside (top (below state.stack))) (int_inside (top state.stack))
+    (λ a b. goes_to state (if int_eq a b then next else target) (below (below state.stack))) (λ a b. next_null _)
 each_null (Goto target) next state = next_null _
 each_null Ireturn next state = int_null (int_inside (top state.stack)) (λ n. Ended) (λ n. ended_null)
 each_null Return next state = ended_null
 each_null Athrow next state = throw_null (top state.stack)
 
-pub raises_null : (instr : ThinInstr) (next : ℕ) (state : State) (kind : Kind) → step_of instr next state ≡ Raised kind → kind ≡ Null
+pub raises_null : (instr : ThinInstr) (next : ℕ) (state : State) (kind : Kind) → step_of instr next state ≡ Raised kind
+    → kind ≡ Null
 raises_null instr next state kind is = (each_null instr next state).null kind is

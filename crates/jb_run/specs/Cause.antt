@@ -1,5 +1,6 @@
 -- The cause of each answer of the top call.
-use Rattle.std.specs.Prelude.{◌≡◌, ◌⊎◌, ℕ, ◌==◌, List, [], ◌∷◌, ◌++◌, length, map, nat_lt, Option, Some, None, IfSome, if◌then◌else◌}
+use Rattle.std.specs.Prelude.{◌≡◌, ◌⊎◌, ℕ, ◌==◌, List, [], ◌∷◌, ◌++◌, length, map, nat_lt, Option, Some, None, IfSome}
+use Rattle.std.specs.Prelude.{if◌then◌else◌}
 use Rattle.std.specs.Option.{option_map}
 use Rattle.jv_base.specs.declared.method.MethodId.{MethodId}
 use Rattle.cf_class.specs.declared.thin.ThinMethod.{ThinMethod}
@@ -13,20 +14,22 @@ use Rattle.jb_run.specs.declared.report.Line.{Line}
 use Rattle.jb_run.specs.declared.report.Report.{Report}
 use Rattle.jb_run.specs.Command.{CommandOf, IsCommand, IsUsage}
 use Rattle.jb_run.specs.Justified.{AreJustified}
-use Rattle.jb_run.specs.OutputText.{failure_count, AreIntLines}
+use Rattle.jb_run.specs.OutputText.{failure_count}
 use Rattle.jb_run.specs.Path.{class_path}
 use Rattle.jb_run.specs.Sites.{IsSites}
+use Rattle.jb_run.specs.Violates.{RunsGoOn}
 
 -- the status of the lines: 10 where one of them fails, else 0
 abbrev pub status_of : List Line → ℕ
 status_of lines = if failure_count lines == 0 then 0 else 10
 
--- the bytes are a class with the thin method of the entry, and the lines are for its sites, in order, with verdicts that are
--- true of it
+-- the bytes are a class with the thin method of the entry, no run of which is stuck, and the lines are for its sites,
+-- in order, with verdicts that are true of it
 pub record AreLinesOf (bytes : List ℕ) (entry : MethodId) (lines : List Line) : Type 0 where
   pub method : ThinMethod
   pub thin : Thin bytes entry method
   pub sites : IsSites entry method.code (map (λ line. line.goal) lines)
+  pub goes_on : RunsGoOn method.code entry
   pub justified : AreJustified method.code entry lines
 
 -- the folder's answer is a class with the thin method of the entry, and the lines are for its sites
@@ -60,7 +63,6 @@ Follows entry was before lines = IsDecided entry was before lines ⊎ IsRefused 
 pub record HasReport (entry : MethodId) (was : Was) (before : ℕ) (report : Report) : Type 0 where
   pub world : report.world.entries ≡ record { name = entry.class; was = was } ∷ []
   pub follows : Follows entry was before report.verdicts
-  pub ints : AreIntLines report.verdicts
 
 abbrev pub Answered : MethodId → Was → ℕ → Option Report → Type 0
 Answered entry was before None = ⊥
@@ -76,7 +78,8 @@ abbrev pub IsTold : Option (List File) → List ℕ → Was → Type 0
 IsTold told path was = IfSome told (λ files. was ≡ was_of (file_at files path))
 
 -- the report is for the folder's answer at the path of the class of the entry
-pub record IsReport (told : Option (List File)) (dir : List ℕ) (entry : MethodId) (before : ℕ) (report : Report) : Type 0 where
+pub record IsReport (told : Option (List File)) (dir : List ℕ) (entry : MethodId) (before : ℕ)
+    (report : Report) : Type 0 where
   pub was : Was
   pub answer : IsTold told (class_path dir entry.class) was
   pub has_report : HasReport entry was before report
@@ -88,8 +91,8 @@ pub record IsReported (told : Option (List File)) (words : List (List ℕ)) (bef
   pub command : CommandOf words dir entry
   pub report_is : IsReport told dir entry before report
 
--- The cause of the status before the write: 6 is free, and has no report; 1 comes where the words are no command; 3 where they
--- are one, and the read failed; any other comes from the report.
+-- The cause of the status before the write: 6 is free, and has no report; 1 comes where the words are no command; 3
+-- where they are one, and the read failed; any other comes from the report.
 abbrev pub Cause : Option (List File) → List (List ℕ) → ℕ → Option Report → Type 0
 Cause told words before None = (before ≡ 6) ⊎ (((before ≡ 1) × IsUsage words) ⊎ ((before ≡ 3) × IsCommand words))
 Cause told words before (Some report) = IsReported told words before report
@@ -109,7 +112,8 @@ AsksAtMost old path new = (new ≡ old) ⊎ AsksPath old path new
 
 -- the path of the class of the entry was asked for, once
 abbrev pub AsksOnce : Option (List (List ℕ)) → List (List ℕ) → Option (List (List ℕ)) → Type 0
-AsksOnce old words new = (dir : List ℕ) × (entry : MethodId) × CommandOf words dir entry × AsksPath old (class_path dir entry.class) new
+AsksOnce old words new = (dir : List ℕ) × (entry : MethodId) × CommandOf words dir entry
+    × AsksPath old (class_path dir entry.class) new
 
 -- no path was asked for, or the path of the class of the entry was, once
 abbrev pub AsksForEntry : Option (List (List ℕ)) → List (List ℕ) → Option (List (List ℕ)) → Type 0
@@ -117,4 +121,5 @@ AsksForEntry old words new = (new ≡ old) ⊎ AsksOnce old words new
 
 -- the text was put and the status is the one before, or a front of the text was put and the status is 4
 abbrev pub PutsText : Option (List ℕ) → List ℕ → ℕ → ℕ → Option (List ℕ) → Type 0
-PutsText old text before status new = ((status ≡ before) × Holds old text new) ⊎ ((status ≡ 4) × HoldsFront old text new)
+PutsText old text before status new =
+    ((status ≡ before) × Holds old text new) ⊎ ((status ≡ 4) × HoldsFront old text new)

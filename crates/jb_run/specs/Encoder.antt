@@ -1,9 +1,11 @@
 -- What the steps of the encoder do: under each assignment that satisfies the formula, one guard at most is true among
 -- the frames that wait, at the pc where the run is, and the frame under it shows the run's state.
-use Rattle.std.specs.Prelude.{◌≡◌, ◌+◌, ◌<◌, ◌≤◌, ◌↔◌, ◌||◌, if◌then◌else◌, ℕ, ℤ, Bool, true, false, List, [], ◌++◌, length, Option, Some, None, slice_get, slice_set, slice_index_or, option_and_then, All, FitsSigned}
+use Rattle.std.specs.Prelude.{◌≡◌, ◌+◌, ◌<◌, ◌≤◌, ◌↔◌, ◌||◌, if◌then◌else◌, ℕ, ℤ, Bool, true, false, List, [], ◌++◌}
+use Rattle.std.specs.Prelude.{length, Option, Some, None, slice_get, slice_set, slice_index_or, option_and_then, All}
+use Rattle.std.specs.Prelude.{FitsSigned}
 use Rattle.std.specs.Int.{w32}
 use Rattle.cf_class.specs.declared.instr.ThinInstr.{ThinInstr}
-use Rattle.cf_class.specs.declared.shape.Operand as kind
+use Rattle.cf_class.specs.declared.shape.OperandType as kind
 use Rattle.cf_class.specs.declared.shape.Shape.{Shape}
 use Rattle.cf_class.specs.declared.shape.Limits.{Limits}
 use Rattle.cf_class.specs.ThinCode.{target_of, falls_through, Steps, Shapes, IsLed, MeetsRules}
@@ -12,7 +14,7 @@ use Rattle.jv_base.specs.declared.value.Value.{Value}
 use Rattle.jb_run.specs.declared.formula.Formula.{Formula}
 use Rattle.jb_run.specs.declared.gates.Bit.{Bit}
 use Rattle.jb_run.specs.declared.gates.Bit.TheVariants.{Known}
-use Rattle.jb_run.specs.declared.word.Word.{Word}
+use Rattle.jb_run.specs.declared.int_bits.IntBits.{IntBits}
 use Rattle.jb_run.specs.declared.frame.Operand.{Operand}
 use Rattle.jb_run.specs.declared.frame.Frame.{Frame}
 use Rattle.jb_run.specs.declared.encoder.Encoder.{Encoder}
@@ -24,7 +26,8 @@ use Rattle.jb_run.specs.Satisfies.{bit_value, Satisfies, IsBitBelow, AreClausesB
 use Rattle.jb_run.specs.Gate.{Extends}
 use Rattle.jb_run.specs.Locals.{local_at}
 use Rattle.jb_run.specs.Machine as machine
-use Rattle.jb_run.specs.Shown.{ShowsInt, ShowInts, ShowsValue, ShowStack, ShowsFrame, IsWordBelow, AreWordsBelow, IsOfKind, AreOfKinds, IsFrameOf}
+use Rattle.jb_run.specs.Shown.{ShowsInt, ShowInts, ShowsValue, ShowStack, ShowsFrame, IsIntBelow, AreIntsBelow}
+use Rattle.jb_run.specs.Shown.{IsOfKind, AreOfKinds, IsFrameOf}
 use Rattle.jb_run.specs.Violates.{RunViolates}
 
 -- the frame that waits at a pc
@@ -84,18 +87,22 @@ pub record IsFormed (shapes : Shapes) (encoder : Encoder) : Type 0 where
   pub clauses : AreClausesBelow encoder.formula.variables (clauses_of encoder.formula)
   pub within : (pc : ℕ) (shape : Shape) → shapes pc ≡ Some shape → pc < length encoder.pending.items
   pub same : length encoder.raised.items ≡ length encoder.pending.items
-  pub frames : (pc : ℕ) (frame : Frame) → pending_at encoder.pending.items pc ≡ Some frame → (shape : Shape) × (shapes pc ≡ Some shape) × IsFrameOf encoder.formula.variables shape frame
+  pub frames : (pc : ℕ) (frame : Frame) → pending_at encoder.pending.items pc ≡ Some frame
+      → (shape : Shape) × (shapes pc ≡ Some shape) × IsFrameOf encoder.formula.variables shape frame
   pub raised : (pc : ℕ) → IsBitBelow encoder.formula.variables (raised_at encoder.raised.items pc)
 
--- the encoder went on from a frame: where the guard is true, the run comes from each state that the frame shows to what is
--- given; where it is false, all is as before. No frame comes below a pc, and nothing is thrown from it on.
-pub record Goes (shapes : Shapes) (old new : Encoder) (low : ℕ) (frame : Frame) (go : (ℕ → Bool) → State → Came) : Type 0 where
+-- the encoder went on from a frame: where the guard is true, the run comes from each state that the frame shows to what
+-- is given; where it is false, all is as before. No frame comes below a pc, and nothing is thrown from it on.
+pub record Goes (shapes : Shapes) (old new : Encoder) (low : ℕ) (frame : Frame) (go : (ℕ → Bool) → State
+    → Came) : Type 0 where
   pub extends : Extends old.formula new.formula
   pub formed : IsFormed shapes new
   pub pending : (pc : ℕ) → pc < low → pending_at new.pending.items pc ≡ pending_at old.pending.items pc
   pub raised : (pc : ℕ) → low ≤ pc → raised_at new.raised.items pc ≡ raised_at old.raised.items pc
-  pub keeps : (a : ℕ → Bool) → Satisfies a new.formula → bit_value a frame.guard ≡ false → (came : Came) → IsSo a old came → IsSo a new came
-  pub goes : (a : ℕ → Bool) → Satisfies a new.formula → bit_value a frame.guard ≡ true → IsSo a old Nothing → (state : State) → ShowsFrame a frame state → IsSo a new (go a state)
+  pub keeps : (a : ℕ → Bool) → Satisfies a new.formula → bit_value a frame.guard ≡ false → (came : Came)
+      → IsSo a old came → IsSo a new came
+  pub goes : (a : ℕ → Bool) → Satisfies a new.formula → bit_value a frame.guard ≡ true → IsSo a old Nothing
+      → (state : State) → ShowsFrame a frame state → IsSo a new (go a state)
 
 -- the encoder is formed, and has a frame of this shape in hand
 pub record HasFrame (shapes : Shapes) (encoder : Encoder) (shape : Shape) (frame : Frame) : Type 0 where
@@ -105,20 +112,29 @@ pub record HasFrame (shapes : Shapes) (encoder : Encoder) (shape : Shape) (frame
 -- a frame comes to a pc
 abbrev pub Arrives : Encoder → Encoder → ℕ → Frame → Type 0
 Arrives old new pc frame =
-    (shapes : Shapes) (shape : Shape) (low : ℕ) → HasFrame shapes old shape frame → IsLed shapes shape pc → low ≤ pc → Goes shapes old new low frame (λ a state. Here (record state { pc = pc }))
+    (shapes : Shapes) (shape : Shape) (low : ℕ) → HasFrame shapes old shape frame → IsLed shapes shape pc → low ≤ pc
+    → Goes shapes old new low frame (λ a state. Here (record state { pc = pc }))
 
 -- a frame comes to one pc where a condition is true, and else to another
 abbrev pub Branches : Encoder → Encoder → Frame → Bit → ℕ → ℕ → Type 0
 Branches old new frame condition true_pc false_pc =
-    (shapes : Shapes) (shape : Shape) (low : ℕ) → HasFrame shapes old shape frame → IsBitBelow old.formula.variables condition → IsLed shapes shape true_pc → IsLed shapes shape false_pc → low ≤ true_pc → low ≤ false_pc → Goes shapes old new low frame (λ a state. Here (record state { pc = if bit_value a condition then true_pc else false_pc }))
+    (shapes : Shapes) (shape : Shape) (low : ℕ) → HasFrame shapes old shape frame
+    → IsBitBelow old.formula.variables condition → IsLed shapes shape true_pc → IsLed shapes shape false_pc
+    → low ≤ true_pc → low ≤ false_pc
+    → Goes shapes old new low frame
+    (λ a state. Here (record state { pc = if bit_value a condition then true_pc else false_pc }))
 
 -- the instruction's outcome is encoded, which takes these operands off the stack and goes to one of two pcs
-abbrev pub BranchesBy : Encoder → Encoder → Frame → List kind.Operand → (State → Outcome) → ℕ → ℕ → Type 0
+abbrev pub BranchesBy : Encoder → Encoder → Frame → List kind.OperandType → (State → Outcome) → ℕ → ℕ → Type 0
 BranchesBy old new frame taken outcome one_pc other_pc =
-    (shapes : Shapes) (shape : Shape) (rest : List kind.Operand) (low pc : ℕ) → HasFrame shapes old shape frame → shape.stack ≡ rest ++ taken → IsLed shapes (record shape { stack = rest }) one_pc → IsLed shapes (record shape { stack = rest }) other_pc → low ≤ one_pc → low ≤ other_pc → Goes shapes old new low frame (λ a state. came_of pc (outcome state))
+    (shapes : Shapes) (shape : Shape) (rest : List kind.OperandType) (low pc : ℕ) → HasFrame shapes old shape frame
+    → shape.stack ≡ rest ++ taken → IsLed shapes (record shape { stack = rest }) one_pc
+    → IsLed shapes (record shape { stack = rest }) other_pc → low ≤ one_pc → low ≤ other_pc
+    → Goes shapes old new low frame (λ a state. came_of pc (outcome state))
 
 -- the encoder has a frame in hand of a shape from which the instruction at a pc steps, and what is at that pc was taken
-pub record IsReady (limits : Limits) (shapes : Shapes) (encoder : Encoder) (pc : ℕ) (frame : Frame) (instr : ThinInstr) (next : ℕ) : Type 0 where
+pub record IsReady (limits : Limits) (shapes : Shapes) (encoder : Encoder) (pc : ℕ) (frame : Frame) (instr : ThinInstr)
+    (next : ℕ) : Type 0 where
   pub shape : Shape
   pub has : HasFrame shapes encoder shape frame
   pub within : pc < length encoder.pending.items
@@ -133,79 +149,102 @@ pub record IsReady (limits : Limits) (shapes : Shapes) (encoder : Encoder) (pc :
 -- the instruction at a pc is encoded
 abbrev pub Executes : Encoder → Encoder → ℕ → Frame → ThinInstr → ℕ → Type 0
 Executes old new pc frame instr next =
-    (limits : Limits) (shapes : Shapes) → IsReady limits shapes old pc frame instr next → Goes shapes old new (pc + 1) frame (λ a state. came_of pc (machine.step_of instr next state))
+    (limits : Limits) (shapes : Shapes) → IsReady limits shapes old pc frame instr next
+    → Goes shapes old new (pc + 1) frame (λ a state. came_of pc (machine.step_of instr next state))
 
 -- where two frames of a shape meet
 pub record IsMerged (shape : Shape) (old new : Formula) (first second met : Frame) : Type 0 where
   pub extends : Extends old new
   pub frame_is : IsFrameOf new.variables shape met
-  pub guard : (a : ℕ → Bool) → Satisfies a new → bit_value a met.guard ≡ (bit_value a first.guard || bit_value a second.guard)
-  pub shows_first : (a : ℕ → Bool) → Satisfies a new → bit_value a first.guard ≡ true → (state : State) → ShowsFrame a first state → ShowsFrame a met state
-  pub shows_second : (a : ℕ → Bool) → Satisfies a new → bit_value a first.guard ≡ false → (state : State) → ShowsFrame a second state → ShowsFrame a met state
+  pub guard : (a : ℕ → Bool) → Satisfies a new
+      → bit_value a met.guard ≡ (bit_value a first.guard || bit_value a second.guard)
+  pub shows_first : (a : ℕ → Bool) → Satisfies a new → bit_value a first.guard ≡ true → (state : State)
+      → ShowsFrame a first state → ShowsFrame a met state
+  pub shows_second : (a : ℕ → Bool) → Satisfies a new → bit_value a first.guard ≡ false → (state : State)
+      → ShowsFrame a second state → ShowsFrame a met state
 
 abbrev pub Merges : Formula → Formula → Frame → Frame → Frame → Type 0
 Merges old new first second met =
-    (shape : Shape) → AreClausesBelow old.variables (clauses_of old) → IsFrameOf old.variables shape first → IsFrameOf old.variables shape second → IsMerged shape old new first second met
+    (shape : Shape) → AreClausesBelow old.variables (clauses_of old) → IsFrameOf old.variables shape first
+    → IsFrameOf old.variables shape second → IsMerged shape old new first second met
 
 -- operands of a kind that were merged: the first where the choice is true, and else the second
-pub record IsMergedOperand (kind : kind.Operand) (old new : Formula) (choice : Bit) (first second met : Operand) : Type 0 where
+pub record IsMergedOperand (kind : kind.OperandType) (old new : Formula) (choice : Bit)
+    (first second met : Operand) : Type 0 where
   pub extends : Extends old new
   pub kind_is : IsOfKind new.variables kind met
-  pub shows_first : (a : ℕ → Bool) → Satisfies a new → bit_value a choice ≡ true → (value : Value) → ShowsValue a first value → ShowsValue a met value
-  pub shows_second : (a : ℕ → Bool) → Satisfies a new → bit_value a choice ≡ false → (value : Value) → ShowsValue a second value → ShowsValue a met value
+  pub shows_first : (a : ℕ → Bool) → Satisfies a new → bit_value a choice ≡ true → (value : Value)
+      → ShowsValue a first value → ShowsValue a met value
+  pub shows_second : (a : ℕ → Bool) → Satisfies a new → bit_value a choice ≡ false → (value : Value)
+      → ShowsValue a second value → ShowsValue a met value
 
 abbrev pub MergeOperand : Formula → Formula → Bit → Operand → Operand → Operand → Type 0
 MergeOperand old new choice first second met =
-    (kind : kind.Operand) → AreClausesBelow old.variables (clauses_of old) → IsBitBelow old.variables choice → IsOfKind old.variables kind first → IsOfKind old.variables kind second → IsMergedOperand kind old new choice first second met
+    (kind : kind.OperandType) → AreClausesBelow old.variables (clauses_of old) → IsBitBelow old.variables choice
+    → IsOfKind old.variables kind first → IsOfKind old.variables kind second
+    → IsMergedOperand kind old new choice first second met
 
 -- stacks of these kinds that were merged: the first where the choice is true, and else the second
-pub record AreMergedStacks (kinds : List kind.Operand) (old new : Formula) (choice : Bit) (first second met : List Operand) : Type 0 where
+pub record AreMergedStacks (kinds : List kind.OperandType) (old new : Formula) (choice : Bit)
+    (first second met : List Operand) : Type 0 where
   pub extends : Extends old new
   pub kinds_are : AreOfKinds new.variables kinds met
-  pub shows_first : (a : ℕ → Bool) → Satisfies a new → bit_value a choice ≡ true → (state : State) → ShowStack a first state.stack → ShowStack a met state.stack
-  pub shows_second : (a : ℕ → Bool) → Satisfies a new → bit_value a choice ≡ false → (state : State) → ShowStack a second state.stack → ShowStack a met state.stack
+  pub shows_first : (a : ℕ → Bool) → Satisfies a new → bit_value a choice ≡ true → (state : State)
+      → ShowStack a first state.stack → ShowStack a met state.stack
+  pub shows_second : (a : ℕ → Bool) → Satisfies a new → bit_value a choice ≡ false → (state : State)
+      → ShowStack a second state.stack → ShowStack a met state.stack
 
 abbrev pub MergeStacks : Formula → Formula → Bit → List Operand → List Operand → List Operand → Type 0
 MergeStacks old new choice first second met =
-    (kinds : List kind.Operand) → AreClausesBelow old.variables (clauses_of old) → IsBitBelow old.variables choice → AreOfKinds old.variables kinds first → AreOfKinds old.variables kinds second → AreMergedStacks kinds old new choice first second met
+    (kinds : List kind.OperandType) → AreClausesBelow old.variables (clauses_of old) → IsBitBelow old.variables choice
+    → AreOfKinds old.variables kinds first → AreOfKinds old.variables kinds second
+    → AreMergedStacks kinds old new choice first second met
 
 -- an int that was merged of one in each: it shows the first where the choice is true, and else the second
-pub record IsMergedInt (new : Formula) (choice : Bit) (first second : Option Word) (met : Word) : Type 0 where
-  pub within : IsWordBelow new.variables met
-  pub one : Word
-  pub other : Word
+pub record IsMergedInt (new : Formula) (choice : Bit) (first second : Option IntBits) (met : IntBits) : Type 0 where
+  pub within : IsIntBelow new.variables met
+  pub one : IntBits
+  pub other : IntBits
   pub in_first : first ≡ Some one
   pub in_second : second ≡ Some other
-  pub shows_first : (a : ℕ → Bool) → Satisfies a new → bit_value a choice ≡ true → (n : ℤ) → ShowsInt a one n → ShowsInt a met n
-  pub shows_second : (a : ℕ → Bool) → Satisfies a new → bit_value a choice ≡ false → (n : ℤ) → ShowsInt a other n → ShowsInt a met n
+  pub shows_first : (a : ℕ → Bool) → Satisfies a new → bit_value a choice ≡ true → (n : ℤ) → ShowsInt a one n
+      → ShowsInt a met n
+  pub shows_second : (a : ℕ → Bool) → Satisfies a new → bit_value a choice ≡ false → (n : ℤ) → ShowsInt a other n
+      → ShowsInt a met n
 
 -- a local that was merged: it holds an int where both hold one
-pub record IsMergedLocal (old new : Formula) (choice : Bit) (first second met : Option Word) : Type 0 where
+pub record IsMergedLocal (old new : Formula) (choice : Bit) (first second met : Option IntBits) : Type 0 where
   pub extends : Extends old new
-  pub holds : (one other : Word) → first ≡ Some one → second ≡ Some other → (word : Word) × (met ≡ Some word)
-  pub held : (word : Word) → met ≡ Some word → IsMergedInt new choice first second word
+  pub holds : (one other : IntBits) → first ≡ Some one → second ≡ Some other → (word : IntBits) × (met ≡ Some word)
+  pub held : (word : IntBits) → met ≡ Some word → IsMergedInt new choice first second word
 
 -- the word that a local holds is of variables below a number
-abbrev pub IsLocalBelow : ℕ → Option Word → Type 0
-IsLocalBelow n local = (word : Word) → local ≡ Some word → IsWordBelow n word
+abbrev pub IsLocalBelow : ℕ → Option IntBits → Type 0
+IsLocalBelow n local = (word : IntBits) → local ≡ Some word → IsIntBelow n word
 
-abbrev pub MergeLocal : Formula → Formula → Bit → Option Word → Option Word → Option Word → Type 0
+abbrev pub MergeLocal : Formula → Formula → Bit → Option IntBits → Option IntBits → Option IntBits → Type 0
 MergeLocal old new choice first second met =
-    AreClausesBelow old.variables (clauses_of old) → IsBitBelow old.variables choice → IsLocalBelow old.variables first → IsLocalBelow old.variables second → IsMergedLocal old new choice first second met
+    AreClausesBelow old.variables (clauses_of old) → IsBitBelow old.variables choice → IsLocalBelow old.variables first
+    → IsLocalBelow old.variables second → IsMergedLocal old new choice first second met
 
 -- locals that were merged: those that hold an int in both
-pub record AreMergedLocals (old new : Formula) (choice : Bit) (first second met : List (Option Word)) : Type 0 where
+pub record AreMergedLocals (old new : Formula) (choice : Bit) (first second met : List (Option IntBits)) : Type 0 where
   pub extends : Extends old new
-  pub holds : (k : ℕ) (one other : Word) → local_at first k ≡ Some one → local_at second k ≡ Some other → (word : Word) × (local_at met k ≡ Some word)
-  pub held : (k : ℕ) (word : Word) → local_at met k ≡ Some word → IsMergedInt new choice (local_at first k) (local_at second k) word
+  pub holds : (k : ℕ) (one other : IntBits) → local_at first k ≡ Some one → local_at second k ≡ Some other
+      → (word : IntBits) × (local_at met k ≡ Some word)
+  pub held : (k : ℕ) (word : IntBits) → local_at met k ≡ Some word
+      → IsMergedInt new choice (local_at first k) (local_at second k) word
 
 -- the words that the locals hold are of variables below a number
-abbrev pub AreLocalsBelow : ℕ → List (Option Word) → Type 0
-AreLocalsBelow n locals = (k : ℕ) (word : Word) → local_at locals k ≡ Some word → IsWordBelow n word
+abbrev pub AreLocalsBelow : ℕ → List (Option IntBits) → Type 0
+AreLocalsBelow n locals = (k : ℕ) (word : IntBits) → local_at locals k ≡ Some word → IsIntBelow n word
 
-abbrev pub MergeLocals : Formula → Formula → Bit → List (Option Word) → List (Option Word) → List (Option Word) → Type 0
+abbrev pub MergeLocals : Formula → Formula → Bit → List (Option IntBits) → List (Option IntBits) → List (Option IntBits)
+    → Type 0
 MergeLocals old new choice first second met =
-    AreClausesBelow old.variables (clauses_of old) → IsBitBelow old.variables choice → AreLocalsBelow old.variables first → AreLocalsBelow old.variables second → AreMergedLocals old new choice first second met
+    AreClausesBelow old.variables (clauses_of old) → IsBitBelow old.variables choice
+    → AreLocalsBelow old.variables first → AreLocalsBelow old.variables second
+    → AreMergedLocals old new choice first second met
 
 -- a frame meets the one that waits, if any
 abbrev pub Meets : Formula → Formula → Frame → Option Frame → Frame → Type 0
@@ -218,25 +257,29 @@ pub record IsEmpty (formula : Formula) : Type 0 where
   pub clauses : clauses_of formula ≡ []
 
 -- the formula has inputs: each list of so many ints of 32 bits has an assignment that satisfies it and shows them
-pub record HasInputs (params : ℕ) (formula : Formula) (inputs : List Word) : Type 0 where
+pub record HasInputs (params : ℕ) (formula : Formula) (inputs : List IntBits) : Type 0 where
   pub number : length inputs ≡ params
   pub clauses : AreClausesBelow formula.variables (clauses_of formula)
-  pub within : AreWordsBelow formula.variables inputs
-  pub has : (ints : List ℤ) → length ints ≡ params → All (FitsSigned w32) ints → (a : ℕ → Bool) × Satisfies a formula × ShowInts a inputs ints
+  pub within : AreIntsBelow formula.variables inputs
+  pub has : (ints : List ℤ) → length ints ≡ params → All (FitsSigned w32) ints → (a : ℕ → Bool) × Satisfies a formula
+      × ShowInts a inputs ints
 
 -- a run of these ints came to this
 abbrev pub HasCome : List ℕ → List ℤ → Came → Type 0
-HasCome code ints Nothing = (steps : ℕ) × (state : State) × (machine.after code steps (machine.start ints) ≡ Some state) × (machine.step code state ≡ Ended)
+HasCome code ints Nothing = (steps : ℕ) × (state : State) × (machine.after code steps (machine.start ints) ≡ Some state)
+    × (machine.step code state ≡ Ended)
 HasCome code ints (Here state) = (steps : ℕ) × (machine.after code steps (machine.start ints) ≡ Some state)
 HasCome code ints (Thrown pc) = RunViolates code ints pc Null
 
 -- the instructions below a pc are encoded, from a formula that has the inputs
-pub record IsEncoded (code : List ℕ) (shapes : Shapes) (first : Formula) (inputs : List Word) (pc : ℕ) (encoder : Encoder) : Type 0 where
+pub record IsEncoded (code : List ℕ) (shapes : Shapes) (first : Formula) (inputs : List IntBits) (pc : ℕ)
+    (encoder : Encoder) : Type 0 where
   pub formed : IsFormed shapes encoder
   pub extends : Extends first encoder.formula
   pub done : (at : ℕ) → at < pc → pending_at encoder.pending.items at ≡ None
   pub quiet : (at : ℕ) → pc ≤ at → raised_at encoder.raised.items at ≡ Known false
-  pub runs : (a : ℕ → Bool) → Satisfies a encoder.formula → (ints : List ℤ) → ShowInts a inputs ints → (came : Came) × IsSo a encoder came × HasCome code ints came
+  pub runs : (a : ℕ → Bool) → Satisfies a encoder.formula → (ints : List ℤ) → ShowInts a inputs ints
+      → (came : Came) × IsSo a encoder came × HasCome code ints came
 
 -- the encoder after the frame at a pc was taken
 pub record IsTaken (old new : Encoder) (pc : ℕ) : Type 0 where
@@ -248,4 +291,5 @@ pub record IsTaken (old new : Encoder) (pc : ℕ) : Type 0 where
 -- the instruction at a pc is encoded, where a frame waits for it
 abbrev pub Visits : List ℕ → Encoder → Encoder → ℕ → Type 0
 Visits code old new pc =
-    (limits : Limits) (shapes : Shapes) (first : Formula) (inputs : List Word) → MeetsRules code limits shapes → IsEncoded code shapes first inputs pc old → IsEncoded code shapes first inputs (pc + 1) new
+    (limits : Limits) (shapes : Shapes) (first : Formula) (inputs : List IntBits) → MeetsRules code limits shapes
+    → IsEncoded code shapes first inputs pc old → IsEncoded code shapes first inputs (pc + 1) new

@@ -17,3 +17,6 @@ pub mod Sites
 pub mod Solved
 pub mod Stack
 pub mod Violates
+pub mod Inputs
+pub mod IntLines
+pub mod InputText

@@ -6,7 +6,8 @@ use Rattle.jv_base.specs.declared.method.Kind.TheVariants.{Null}
 use Rattle.jv_base.specs.declared.value.Value.{Value}
 use Rattle.jv_base.specs.declared.value.Value.TheVariants.{Int, Ref}
 use Rattle.cf_class.specs.declared.instr.ThinInstr.{ThinInstr}
-use Rattle.cf_class.specs.declared.instr.ThinInstr.TheVariants.{AconstNull, Iconst, Iload, Istore, Ixor, Ifeq, Ifne, IfIcmpeq, IfIcmpne, Goto, Ireturn, Return, Athrow}
+use Rattle.cf_class.specs.declared.instr.ThinInstr.TheVariants.{AconstNull, Iconst, Iload, Istore, Ixor, Ifeq, Ifne}
+use Rattle.cf_class.specs.declared.instr.ThinInstr.TheVariants.{IfIcmpeq, IfIcmpne, Goto, Ireturn, Return, Athrow}
 use Rattle.cf_class.specs.Instr.{instr_at}
 use Rattle.jb_run.specs.Locals.{local_at, with_local}
 use Rattle.jb_run.specs.Stack.{top, below}
@@ -54,7 +55,8 @@ load index next state = with_int (int_inside (local_at state.locals index)) (λ 
 -- an int is popped into a local (6.5: istore, istore_<n>)
 abbrev pub store : ℕ → ℕ → State → Outcome
 store index next state =
-    pop_int state.stack (λ n rest. Next (record { pc = next; locals = with_local state.locals index (Int n); stack = rest }))
+    pop_int state.stack
+    (λ n rest. Next (record { pc = next; locals = with_local state.locals index (Int n); stack = rest }))
 
 -- two ints are popped, and their exclusive or, bit by bit, is pushed (6.5: ixor)
 abbrev pub exclusive_or : ℕ → State → Outcome
@@ -65,7 +67,8 @@ abbrev pub branch_on_zero : ℕ → ℕ → State → Outcome
 branch_on_zero zero_pc other_pc state =
     pop_int state.stack (λ n rest. goes_to state (if int_eq n (pos 0) then zero_pc else other_pc) rest)
 
--- two ints are popped, and it is said where the run goes on where they are equal, and where they are not (6.5: if_icmp<cond>)
+-- two ints are popped, and it is said where the run goes on where they are equal, and where they are not (6.5:
+-- if_icmp<cond>)
 abbrev pub branch_on_equal : ℕ → ℕ → State → Outcome
 branch_on_equal equal_pc other_pc state =
     pop_ints state.stack (λ a b rest. goes_to state (if int_eq a b then equal_pc else other_pc) rest)

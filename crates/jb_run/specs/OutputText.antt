@@ -1,15 +1,10 @@
 -- The text that a run prints, as a function of the words, the status before the write, and the report.
-use Rattle.std.specs.Prelude.{ℕ, ℤ, IsSome, Bool, true, false, ◌==◌, List, [], ◌∷◌, ◌++◌, length, map, count_by, Option, Some, None, All, if◌then◌else◌, codes, decimal}
+use Rattle.std.specs.Prelude.{ℕ, Bool, true, false, ◌==◌, List, [], ◌∷◌, ◌++◌, length, count_by, Option, Some}
+use Rattle.std.specs.Prelude.{None, if◌then◌else◌, codes, decimal}
 use Rattle.std.specs.List.{flat_map}
-use Rattle.serde_json.specs.Data.{Data, null, number, array, object, no_members, member}
-use Rattle.serde_json.specs.Find.{of_integer}
-use Rattle.serde_json.specs.View.{items_of}
-use Rattle.serde_json.specs.Written.{compact_text}
 use Rattle.jv_base.specs.Spelling.{name_text, site_spelling}
-use Rattle.jv_base.specs.declared.input.Tree.{Tree, out-Tree}
-use Rattle.jv_base.specs.declared.input.Tree.TheOpen.{Tree-F}
-use Rattle.jv_base.specs.declared.input.Part.{Part}
 use Rattle.jv_base.specs.declared.input.Input.{Input}
+use Rattle.jb_run.specs.InputText.{input_text}
 use Rattle.jb_run.specs.declared.report.Asked.{Asked}
 use Rattle.jb_run.specs.declared.report.Was.{Was}
 use Rattle.jb_run.specs.declared.report.Was.TheVariants.{Found, Absent, TooLong}
@@ -17,43 +12,6 @@ use Rattle.jb_run.specs.declared.report.Verdict.{Verdict}
 use Rattle.jb_run.specs.declared.report.Verdict.TheVariants.{Success, Failure}
 use Rattle.jb_run.specs.declared.report.Line.{Line}
 use Rattle.jb_run.specs.declared.report.Report.{Report}
-
--- the int of an argument that is one
-abbrev pub int_inside : Tree-F Tree Part → Option ℤ
-int_inside (Tree-F.Int n) = Some n
-int_inside tree = None
-
-abbrev pub int_of : Tree → Option ℤ
-int_of tree = int_inside (out-Tree tree)
-
--- an argument that stands in the inputs of thin methods: an int
-abbrev pub IsIntTree : Tree → Type 0
-IsIntTree tree = IsSome (int_of tree)
-
--- a verdict of a thin method: an input is a list of ints
-abbrev pub IsIntVerdict : Verdict → Type 0
-IsIntVerdict Success = Unit {0}
-IsIntVerdict (Failure input) = All IsIntTree input.args
-
-abbrev pub AreIntLines : List Line → Type 0
-AreIntLines lines = All (λ line. IsIntVerdict line.verdict) lines
-
--- an int as JSON
-abbrev pub int_json : Option ℤ → Data
-int_json (Some n) = number (of_integer n)
-int_json None = null
-
--- an argument as JSON; the inputs of thin methods hold ints alone
-abbrev pub argument_json : Tree → Data
-argument_json tree = int_json (int_of tree)
-
--- an input: an object with the member `args`, the arguments in order
-abbrev pub input_json : Input → Data
-input_json input = object (member (codes "args") (array (items_of (map argument_json input.args))) no_members)
-
--- an input as compact JSON
-unfoldable pub input_text : Input → List ℕ
-input_text input = compact_text (input_json input)
 
 -- the input of a verdict that has one
 unfoldable pub failure_text : Input → List ℕ
@@ -78,12 +36,14 @@ failure_count lines = count_by (λ line. fails line.verdict) lines
 -- how many sites there are, and how many of them fail
 unfoldable pub counts_text : List Line → List ℕ
 counts_text lines =
-    codes "sites " ++ decimal (length lines) ++ codes " failure " ++ decimal (failure_count lines) ++ codes " unknown 0\n"
+    codes "sites " ++ decimal (length lines) ++ codes " failure " ++ decimal (failure_count lines)
+    ++ codes " unknown 0\n"
 
 -- the entry as it was given, the bounds, a line for each site, and the counts
 unfoldable pub plain_text : List ℕ → List Line → List ℕ
 plain_text entry lines =
-    codes "entry " ++ entry ++ codes "\nbounds unwind=16 frames=16 depth=2 string=32 array=16\n" ++ flat_map line_text lines ++ counts_text lines
+    codes "entry " ++ entry ++ codes "\nbounds unwind=16 frames=16 depth=2 string=32 array=16\n"
+    ++ flat_map line_text lines ++ counts_text lines
 
 -- a class that is not there
 unfoldable pub missing_text : List ℕ → List ℕ

@@ -1,5 +1,6 @@
--- The search for an assignment: the values of some variables, and the assignments that extend them.
-use Rattle.std.specs.Prelude.{◌≡◌, ◌⊎◌, ℕ, ◌<◌, ◌≤◌, Bool, true, false, List, [], ◌∷◌, ◌++◌, length, Option, Some, None, slice_set, slice_index_or, count_by}
+-- The search for an assignment: the values of some variables, and the assignments that agree with them.
+use Rattle.std.specs.Prelude.{◌≡◌, ◌⊎◌, ℕ, ◌<◌, ◌≤◌, Bool, true, false, List, [], ◌∷◌, ◌++◌, length, Option, Some, None}
+use Rattle.std.specs.Prelude.{slice_set, slice_index_or, count_by}
 use Rattle.std.specs.List.{list_all}
 use Rattle.jb_run.specs.declared.formula.Lit.{Lit}
 use Rattle.jb_run.specs.declared.formula.Clause.{Clause}
@@ -17,13 +18,15 @@ use Rattle.jb_run.specs.Satisfies.{lit_value, bit_value, clause_holds, Satisfies
 abbrev pub value_at : List Bool → ℕ → Bool
 value_at values variable = slice_index_or values variable false
 
--- the answer is right: the values satisfy the formula and the goal; or, where the variables are those of the formula, no
--- assignment does
+-- the answer is right: the values satisfy the formula and the goal; or, where the variables are those of the formula,
+-- no assignment does
 abbrev pub IsRight : Formula → Bit → Answer → Type 0
 IsRight formula goal (Sat values) =
-    (length values.items ≡ formula.variables) × Satisfies (value_at values.items) formula × (bit_value (value_at values.items) goal ≡ true)
+    (length values.items ≡ formula.variables) × Satisfies (value_at values.items) formula
+    × (bit_value (value_at values.items) goal ≡ true)
 IsRight formula goal Unsat =
-    AreClausesBelow formula.variables (clauses_of formula) → IsBitBelow formula.variables goal → (a : ℕ → Bool) → Satisfies a formula → bit_value a goal ≡ true → ⊥
+    AreClausesBelow formula.variables (clauses_of formula) → IsBitBelow formula.variables goal → (a : ℕ → Bool)
+    → Satisfies a formula → bit_value a goal ≡ true → ⊥
 
 -- the value of a variable, where it has one; a variable past the list is false
 abbrev pub known_at : List (Option Bool) → ℕ → Option Bool
@@ -41,7 +44,7 @@ abbrev pub known_lit : List (Option Bool) → Lit → Option Bool
 known_lit values lit = with_sign lit.negated (known_at values lit.variable)
 
 -- the assignment gives each variable the value that it has
-pub record Extends (a : ℕ → Bool) (values : List (Option Bool)) : Type 0 where
+pub record AgreesWith (a : ℕ → Bool) (values : List (Option Bool)) : Type 0 where
   pub agrees : (variable : ℕ) (value : Bool) → known_at values variable ≡ Some value → a variable ≡ value
 
 -- whether the assignment makes each clause true
@@ -60,18 +63,18 @@ is_unset (Some value) = false
 unfoldable pub unset_count : List (Option Bool) → ℕ
 unset_count values = count_by is_unset values
 
--- each assignment that extends the values makes the clause true
+-- each assignment that agrees with the values makes the clause true
 pub record HoldsBy (values : List (Option Bool)) (lits : List Lit) : Type 0 where
-  pub holds : (a : ℕ → Bool) → Extends a values → clause_holds a lits ≡ true
+  pub holds : (a : ℕ → Bool) → AgreesWith a values → clause_holds a lits ≡ true
 
--- each assignment that extends the values makes the clause false
+-- each assignment that agrees with the values makes the clause false
 pub record FailsBy (values : List (Option Bool)) (lits : List Lit) : Type 0 where
-  pub fails : (a : ℕ → Bool) → Extends a values → clause_holds a lits ≡ false
+  pub fails : (a : ℕ → Bool) → AgreesWith a values → clause_holds a lits ≡ false
 
--- the clause is the literal to each assignment that extends the values, and the literal has no value
+-- the clause is the literal to each assignment that agrees with the values, and the literal has no value
 pub record IsLiteral (values : List (Option Bool)) (lits : List Lit) (lit : Lit) : Type 0 where
   pub unset : known_at values lit.variable ≡ None
-  pub same : (a : ℕ → Bool) → Extends a values → clause_holds a lits ≡ lit_value a lit
+  pub same : (a : ℕ → Bool) → AgreesWith a values → clause_holds a lits ≡ lit_value a lit
 
 -- what a clause asks of the values
 abbrev pub IsAsked : List (Option Bool) → List Lit → Asks → Type 0
@@ -90,19 +93,19 @@ pub record Grows (old : Search) (new : Search) : Type 0 where
   pub trail : new.trail.items ≡ old.trail.items ++ added
   pub values : cleared added new.values.items ≡ old.values.items
 
--- an assignment that extends the old values and makes the clauses true extends the new values
+-- an assignment that agrees with the old values and makes the clauses true agrees with the new values
 pub record Keeps (old : List (Option Bool)) (new : List (Option Bool)) (clauses : List Clause) : Type 0 where
-  pub keeps : (a : ℕ → Bool) → Extends a old → all_hold a clauses ≡ true → Extends a new
+  pub keeps : (a : ℕ → Bool) → AgreesWith a old → all_hold a clauses ≡ true → AgreesWith a new
 
--- each assignment that extends the values makes the clauses true
+-- each assignment that agrees with the values makes the clauses true
 pub record AllHoldBy (values : List (Option Bool)) (clauses : List Clause) : Type 0 where
-  pub hold : (a : ℕ → Bool) → Extends a values → all_hold a clauses ≡ true
+  pub hold : (a : ℕ → Bool) → AgreesWith a values → all_hold a clauses ≡ true
 
--- no assignment that extends the values makes the clauses true
+-- no assignment that agrees with the values makes the clauses true
 pub record NoneHolds (values : List (Option Bool)) (clauses : List Clause) : Type 0 where
-  pub none : (a : ℕ → Bool) → Extends a values → all_hold a clauses ≡ true → ⊥
+  pub none : (a : ℕ → Bool) → AgreesWith a values → all_hold a clauses ≡ true → ⊥
 
--- values were added, which each assignment has that extends the old ones and makes the clauses true
+-- values were added, which each assignment has that agrees with the old ones and makes the clauses true
 pub record Adds (old : Search) (new : Search) (clauses : List Clause) : Type 0 where
   pub grows : Grows old new
   pub keeps : Keeps old.values.items new.values.items clauses
@@ -133,23 +136,24 @@ pub record IsSame (old : Search) (new : Search) : Type 0 where
   pub values : new.values.items ≡ old.values.items
   pub trail : new.trail.items ≡ old.trail.items
 
--- each assignment that extends the new values extends the old ones
+-- each assignment that agrees with the new values agrees with the old ones
 pub record IsWithin (old : List (Option Bool)) (new : List (Option Bool)) : Type 0 where
   pub number : length new ≡ length old
-  pub extends : (a : ℕ → Bool) → Extends a new → Extends a old
+  pub agree : (a : ℕ → Bool) → AgreesWith a new → AgreesWith a old
 
--- the goal is true to the assignments that extend the new values, and these are those of the old ones to which it is true
+-- the goal is true to the assignments that agree with the new values, and these are those of the old ones to which it
+-- is true
 pub record Fixes (old : List (Option Bool)) (new : List (Option Bool)) (goal : Bit) : Type 0 where
   pub within : IsWithin old new
-  pub holds : (a : ℕ → Bool) → Extends a new → bit_value a goal ≡ true
-  pub keeps : (a : ℕ → Bool) → Extends a old → bit_value a goal ≡ true → Extends a new
+  pub holds : (a : ℕ → Bool) → AgreesWith a new → bit_value a goal ≡ true
+  pub keeps : (a : ℕ → Bool) → AgreesWith a old → bit_value a goal ≡ true → AgreesWith a new
 
 -- the goal was made true, or it is false
 abbrev pub IsBegun : List (Option Bool) → List (Option Bool) → Bit → Bool → Type 0
 IsBegun old new goal true = Fixes old new goal
-IsBegun old new goal false = (a : ℕ → Bool) → Extends a old → bit_value a goal ≡ true → ⊥
+IsBegun old new goal false = (a : ℕ → Bool) → AgreesWith a old → bit_value a goal ≡ true → ⊥
 
--- each assignment that extends the new values extends the old ones and makes the clauses true
+-- each assignment that agrees with the new values agrees with the old ones and makes the clauses true
 pub record IsFoundBy (old : Search) (new : Search) (clauses : List Clause) : Type 0 where
   pub hold : AllHoldBy new.values.items clauses
   pub within : IsWithin old.values.items new.values.items

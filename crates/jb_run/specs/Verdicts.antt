@@ -19,7 +19,8 @@ pub record IsEncodingOf (code : List ℕ) (method : MethodId) (encoding : Encodi
 -- the verdict is justified for each method that is encoded so
 abbrev pub IsVerdictBy : Encoding → Goal → Verdict → Type 0
 IsVerdictBy encoding goal verdict =
-    (code : List ℕ) (method : MethodId) → IsEncodingOf code method encoding → IsJustified code method goal.site.pc goal.kind verdict
+    (code : List ℕ) (method : MethodId) → IsEncodingOf code method encoding
+    → IsJustified code method goal.site.pc goal.kind verdict
 
 -- and so is the verdict of each line
 abbrev pub AreVerdictsBy : Encoding → List Line → Type 0

@@ -6,9 +6,9 @@ use Rattle.jv_base.specs.declared.method.Kind.{Kind}
 use Rattle.jv_base.specs.declared.method.MethodId.{MethodId}
 use Rattle.cf_class.specs.Thin.{int_descriptor}
 use Rattle.jb_run.specs.declared.machine.State.{State}
-use Rattle.jb_run.specs.declared.machine.Outcome.TheVariants.{Raised}
+use Rattle.jb_run.specs.declared.machine.Outcome.TheVariants.{Raised, Stuck}
 use Rattle.jb_run.specs.Machine.{step, after, start}
-use Rattle.jb_run.specs.OutputText.{int_of}
+use Rattle.jb_run.specs.Inputs.{int_of}
 
 -- the arguments of an input are these ints
 abbrev pub HasInts : Input → List ℤ → Type 0
@@ -35,3 +35,12 @@ pub record Violates (code : List ℕ) (input : Input) (pc : ℕ) (kind : Kind) :
   pub ints : List ℤ
   pub args : HasInts input ints
   pub run : RunViolates code ints pc kind
+
+-- no run of these ints comes to a state where it is stuck
+abbrev pub NeverStuck : List ℕ → List ℤ → Type 0
+NeverStuck code ints =
+    (steps : ℕ) (state : State) → after code steps (start ints) ≡ Some state → step code state ≡ Stuck → ⊥
+
+-- no run of an input of the method is stuck
+abbrev pub RunsGoOn : List ℕ → MethodId → Type 0
+RunsGoOn code method = (input : Input) → (is : IsInput method input) → NeverStuck code is.ints

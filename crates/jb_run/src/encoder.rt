@@ -2,14 +2,14 @@
 // run may go on.
 ghost use Rattle.std.specs.Prelude.{◌≡◌, [], ◌∷◌, IfOk, OnOk};
 ghost use Rattle.cf_class.specs.declared.instr.ThinInstr.TheVariants as instrs;
-ghost use Rattle.cf_class.specs.declared.shape.Operand.TheVariants as kinds;
+ghost use Rattle.cf_class.specs.declared.shape.OperandType.TheVariants as kinds;
 ghost use Rattle.jb_run.specs.Encoder as specs;
 ghost use Rattle.jb_run.specs.Machine as machine;
 
 use crate::formula::Formula;
 use crate::frame::{Frame, Operand, merge};
 use crate::gates::{Bit, and};
-use crate::word::{are_equal, is_zero, known, xor_words};
+use crate::int_bits::{are_equal, is_zero, known, xor_ints};
 use cf_class::ThinInstr;
 use jv_base::Mem;
 use std::alloc::Global;
@@ -124,7 +124,7 @@ impl Encoder {
         let (Some(a), rest) = rest.pop_int() else {
             return Ok(());
         };
-        let word = xor_words(self.alloc, &mut self.formula, &a, &b)?;
+        let word = xor_ints(self.alloc, &mut self.formula, &a, &b)?;
         self.arrive(next, rest.with_operand(Operand::Int(word))?)
     }
 

@@ -9,17 +9,17 @@ use crate::encoder::Encoder;
 use crate::formula::Formula;
 use crate::frame::Frame;
 use crate::gates::Bit;
-use crate::word::{Word, unknown};
-use cf_class::thin_instr_at;
+use crate::int_bits::{IntBits, unknown};
+use cf_class::{go_forward, thin_instr_at, weaker_order};
 use jv_base::{Kind, List, Mem};
-use std::alloc::{AllocError, Global};
+use std::alloc::Global;
 
 /// The formula of a method: an assignment that satisfies it shows the ints of an input, and the run of that input. The
 /// bit of each pc is true exactly where the instruction there raises null.
 #[derive(Debug, Drop)]
 pub struct Encoding {
     pub formula: Formula,
-    pub inputs: List<Word>,
+    pub inputs: List<IntBits>,
     pub raised: List<Bit>,
 }
 
@@ -35,7 +35,7 @@ impl Encoding {
     }
 }
 
-fn inputs_of(alloc: Global, formula: &mut Formula, params: usize) -> Mem<List<Word>>
+fn inputs_of(alloc: Global, formula: &mut Formula, params: usize) -> Mem<List<IntBits>>
     ensures { specs.IsEmpty formula.old → IfOk result (λ inputs. specs.HasInputs params formula.new inputs) }
 {
     let mut inputs = Vec::new(alloc);
@@ -46,7 +46,7 @@ fn inputs_of(alloc: Global, formula: &mut Formula, params: usize) -> Mem<List<Wo
 }
 
 // The frame at the entry: the inputs are in the first locals.
-fn first_frame(alloc: Global, inputs: &[Word]) -> Mem<Frame>
+fn first_frame(alloc: Global, inputs: &[IntBits]) -> Mem<Frame>
     ensures guard { IfOk result (λ frame. frame.guard ≡ bits.Known true) }
     ensures locals { IfOk result (λ frame. frame.locals ≡ map (λ word. Some word) inputs.now) }
     ensures stack { IfOk result (λ frame. frame.stack ≡ []) }
@@ -106,6 +106,7 @@ fn visit(encoder: &mut Encoder, code: &[u8], pc: u16) -> Mem<()>
     let Some((instr, next)) = thin_instr_at(code, pc) else {
         return Ok(());
     };
+    go_forward();
     encoder.execute(frame, pc, instr, next)
 }
 
@@ -114,6 +115,8 @@ pub fn encode(alloc: Global, code: &[u8], params: usize) -> Mem<Encoding>
     requires { length code.now ≤ 65535 }
     ensures { IfOk result (λ encoding. (gives_int : Bool) (max_stack max_locals : ℕ) → ThinCode code.now params gives_int max_stack max_locals → Represents code.now params encoding) }
 {
+    go_forward();
+    weaker_order();
     let mut formula = Formula::new(alloc);
     let inputs = inputs_of(alloc, &mut formula, params)?;
     let frame = first_frame(alloc, inputs.as_slice())?;

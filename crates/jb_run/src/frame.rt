@@ -1,21 +1,21 @@
 // The frame of a thin method under a guard: what its locals and its operand stack hold, as bits of the encoding.
 ghost use Rattle.std.specs.Prelude.{◌≡◌, ◌++◌, ◌∷◌, [], IfOk};
-ghost use Rattle.jb_run.specs.Bits.{int_inside};
+ghost use Rattle.jb_run.specs.Bits.{bits_inside};
 ghost use Rattle.jb_run.specs.Encoder as encoder;
 ghost use Rattle.jb_run.specs.Locals as locals;
 ghost use Rattle.jb_run.specs.Stack as operands;
 
 use crate::formula::Formula;
 use crate::gates::{Bit, or};
+use crate::int_bits::{IntBits, mux_ints};
 use crate::locals::{local_at, with_local};
-use crate::word::{Word, mux_words};
 use jv_base::{List, Mem};
-use std::alloc::{AllocError, Global};
+use std::alloc::Global;
 
 /// A value on the operand stack: an int, or the null reference.
 #[derive(Clone, Copy, Debug, PartialEq, Eq)]
 pub enum Operand {
-    Int(Word),
+    Int(IntBits),
     Null,
 }
 
@@ -24,7 +24,7 @@ pub enum Operand {
 #[derive(Debug, Drop)]
 pub struct Frame {
     pub guard: Bit,
-    pub locals: List<Option<Word>>,
+    pub locals: List<Option<IntBits>>,
     pub stack: List<Operand>,
 }
 
@@ -51,20 +51,20 @@ impl Frame {
     {
         Ok(Frame {
             guard,
-            locals: List::from_vec(self.locals.as_slice().to_vec(alloc)?),
-            stack: List::from_vec(self.stack.as_slice().to_vec(alloc)?),
+            locals: List::copied(alloc, self.locals.as_slice())?,
+            stack: List::copied(alloc, self.stack.as_slice())?,
         })
     }
 
     /// The int in a local, where it holds one.
-    pub fn local(&self, index: u8) -> Option<Word>
+    pub fn local(&self, index: u8) -> Option<IntBits>
         ensures { result ≡ locals.local_at self.now.locals index }
     {
         local_at(self.locals.as_slice(), usize::from(index))
     }
 
     /// The frame with an int in a local.
-    pub fn with_local(self, index: u8, word: Word) -> Mem<Frame>
+    pub fn with_local(self, index: u8, word: IntBits) -> Mem<Frame>
         ensures { IfOk result (λ frame. frame ≡ record self { locals = locals.with_local self.locals index word }) }
     {
         let Frame {
@@ -88,7 +88,7 @@ impl Frame {
             locals,
             mut stack,
         } = self;
-        stack.push(operand).map_err(|_| AllocError)?;
+        stack.add(operand)?;
         Ok(Frame {
             guard,
             locals,
@@ -117,17 +117,17 @@ impl Frame {
     }
 
     /// The int on top, where there is one, and the frame without it.
-    pub fn pop_int(self) -> (Option<Word>, Frame)
-        ensures int { result.0 ≡ int_inside (operands.top self.stack) }
+    pub fn pop_int(self) -> (Option<IntBits>, Frame)
+        ensures int { result.0 ≡ bits_inside (operands.top self.stack) }
         ensures rest { result.1 ≡ record self { stack = operands.below self.stack } }
     {
         let (top, rest) = self.pop();
-        (int_inside(top), rest)
+        (bits_inside(top), rest)
     }
 }
 
-fn int_inside(operand: Option<Operand>) -> Option<Word>
-    ensures { result ≡ int_inside operand }
+fn bits_inside(operand: Option<Operand>) -> Option<IntBits>
+    ensures { result ≡ bits_inside operand }
 {
     match operand {
         Some(Operand::Int(word)) => Some(word),
@@ -140,14 +140,14 @@ fn merge_local(
     alloc: Global,
     formula: &mut Formula,
     choice: Bit,
-    first: Option<Word>,
-    second: Option<Word>,
-) -> Mem<Option<Word>>
+    first: Option<IntBits>,
+    second: Option<IntBits>,
+) -> Mem<Option<IntBits>>
     ensures { IfOk result (λ met. encoder.MergeLocal formula.old formula.new choice first second met) }
 {
     match (first, second) {
         (Some(first), Some(second)) => {
-            Ok(Some(mux_words(alloc, formula, choice, &first, &second)?))
+            Ok(Some(mux_ints(alloc, formula, choice, &first, &second)?))
         }
         _ => Ok(None),
     }
@@ -157,9 +157,9 @@ fn merge_locals(
     alloc: Global,
     formula: &mut Formula,
     choice: Bit,
-    first: &[Option<Word>],
-    second: &[Option<Word>],
-) -> Mem<List<Option<Word>>>
+    first: &[Option<IntBits>],
+    second: &[Option<IntBits>],
+) -> Mem<List<Option<IntBits>>>
     ensures { IfOk result (λ met. encoder.MergeLocals formula.old formula.new choice first.now second.now met) }
 {
     let mut merged = Vec::new(alloc);
@@ -179,7 +179,7 @@ fn merge_operand(
     ensures { IfOk result (λ met. encoder.MergeOperand formula.old formula.new choice first second met) }
 {
     match (first, second) {
-        (Operand::Int(first), Operand::Int(second)) => Ok(Operand::Int(mux_words(
+        (Operand::Int(first), Operand::Int(second)) => Ok(Operand::Int(mux_ints(
             alloc, formula, choice, &first, &second,
         )?)),
         _ => Ok(first),

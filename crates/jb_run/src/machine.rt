@@ -5,9 +5,9 @@ ghost use Rattle.jb_run.specs.Stack as operands;
 ghost use Rattle.jb_run.specs.Violates.{RunViolates};
 
 use crate::locals::{local_at, with_local};
-use cf_class::{ThinInstr, thin_instr_at};
+use cf_class::{ThinInstr, go_forward, thin_instr_at};
 use jv_base::{Kind, List, Mem, Value};
-use std::alloc::{AllocError, Global};
+use std::alloc::Global;
 
 /// The state of a run: its only frame (JVM Specification SE 8, 2.6). A local that is None, or past the end of the list,
 /// holds nothing. The top of the operand stack is the last.
@@ -68,7 +68,7 @@ fn push(state: State, value: Value, next: u16) -> Mem<Outcome>
         locals,
         mut stack,
     } = state;
-    stack.push(value).map_err(|_| AllocError)?;
+    stack.add(value)?;
     Ok(Outcome::Next(State {
         pc: next,
         locals,
@@ -124,7 +124,7 @@ fn exclusive_or(state: State, next: u16) -> Mem<Outcome>
     } = state;
     match pop_ints(stack) {
         (Some(a), Some(b), mut stack) => {
-            stack.push(Value::Int(a ^ b)).map_err(|_| AllocError)?;
+            stack.add(Value::Int(a ^ b))?;
             Ok(Outcome::Next(State {
                 pc: next,
                 locals,
@@ -265,6 +265,7 @@ pub fn violated(alloc: Global, code: &[u8], ints: &[i32]) -> Mem<Option<(u16, Ki
     ensures violates { IfOk result (λ found. (pc : ℕ) (kind : Kind) → (found ≡ Some (pc, kind)) ↔ RunViolates code.now ints.now pc kind) }
     ensures ends { (n : ℕ) (state : State) → machine.after code.now n (machine.start ints.now) ≡ Some state → n ≤ length code.now }
 {
+    go_forward();
     let mut state = start(alloc, ints)?;
     'run: loop {
         let pc = state.pc;

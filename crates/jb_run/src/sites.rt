@@ -5,7 +5,7 @@ ghost use Rattle.jb_run.specs.Sites.{IsSites, goal_at, goals_of};
 
 use cf_class::{ThinInstr, thin_instr_at};
 use jv_base::{Goal, Kind, List, Mem, MethodId, Site};
-use std::alloc::{AllocError, Global};
+use std::alloc::Global;
 
 fn push_goal(
     alloc: Global,
@@ -18,7 +18,7 @@ fn push_goal(
 {
     let method = method.copy(alloc)?;
     let site = Site { method, pc };
-    goals.push(Goal { site, kind }).map_err(|_| AllocError)
+    goals.add(Goal { site, kind })
 }
 
 // Adds the goals of the instruction at a pc.

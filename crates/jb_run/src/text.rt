@@ -4,7 +4,10 @@ ghost use Rattle.std.specs.List.{flat_map};
 ghost use Rattle.serde_json.specs.Data.{array};
 ghost use Rattle.serde_json.specs.View.{view, items_of};
 ghost use Rattle.jb_run.specs.Command.{texts};
-ghost use Rattle.jb_run.specs.OutputText.{IsIntTree, IsIntVerdict, AreIntLines, argument_json, input_text, verdict_text, line_text, fails, failure_count, counts_text, plain_text, refusal_text, refusal_of, missing_text, failure_text, input_json, report_text, entry_word, output_text};
+ghost use Rattle.jb_run.specs.Inputs.{IsIntTree};
+ghost use Rattle.jb_run.specs.InputText.{argument_json, input_json, input_text};
+ghost use Rattle.jb_run.specs.IntLines.{IsIntVerdict, AreIntLines};
+ghost use Rattle.jb_run.specs.OutputText.{verdict_text, line_text, fails, failure_count, counts_text, plain_text, refusal_text, refusal_of, missing_text, failure_text, report_text, entry_word, output_text};
 
 use crate::report::{Asked, Line, Report, Status, Verdict, Was};
 use itoa::Buffer;

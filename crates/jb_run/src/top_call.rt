@@ -5,7 +5,7 @@ ghost use Rattle.io_edges.specs.Faults.{Rose};
 ghost use Rattle.io_edges.specs.Sink.{Adds};
 ghost use Rattle.jb_run.specs.Command.{texts, CommandOf};
 ghost use Rattle.jb_run.specs.Path as path;
-ghost use Rattle.jb_run.specs.OutputText.{AreIntLines, output_text};
+ghost use Rattle.jb_run.specs.OutputText.{output_text};
 ghost use Rattle.jb_run.specs.Cause as cause;
 
 use crate::report::{Asked, Line, Ran, Report, Status, Was, World};
@@ -54,7 +54,7 @@ fn int_params(desc: &Name) -> usize
 
 // The lines of the thin method of the entry, where the bytes have one.
 fn judge(alloc: Global, entry: &MethodId, bytes: &[u8]) -> Mem<Option<List<Line>>>
-    ensures lines { IfOk result (λ o. IfSome o (λ lines. cause.AreLinesOf bytes.now entry.now lines × AreIntLines lines)) }
+    ensures lines { IfOk result (λ o. IfSome o (λ lines. cause.AreLinesOf bytes.now entry.now lines)) }
     ensures none { IfOk result (λ o. IfNone o (cause.HasNoLines entry.now (Was.Found bytes.now))) }
 {
     let Some(method) = read_thin(alloc, bytes, entry)? else {
@@ -67,7 +67,7 @@ fn judge(alloc: Global, entry: &MethodId, bytes: &[u8]) -> Mem<Option<List<Line>
 
 // The lines that follow from the folder's answer, where there are any.
 fn lines_of(alloc: Global, entry: &MethodId, was: &Was) -> Mem<Option<List<Line>>>
-    ensures lines { IfOk result (λ o. IfSome o (λ lines. cause.HasLines entry.now was.now lines × AreIntLines lines)) }
+    ensures lines { IfOk result (λ o. IfSome o (λ lines. cause.HasLines entry.now was.now lines)) }
     ensures none { IfOk result (λ o. IfNone o (cause.HasNoLines entry.now was.now)) }
 {
     match was {
@@ -83,7 +83,7 @@ fn report_of(alloc: Global, class: &Name, was: Was, verdicts: List<Line>) -> Mem
 {
     let name = class.copy(alloc)?;
     let mut entries = List::new(alloc);
-    entries.push(Asked { name, was }).map_err(|_| AllocError)?;
+    entries.add(Asked { name, was })?;
     Ok(Report {
         world: World { entries },
         verdicts,
@@ -146,7 +146,6 @@ fn work<F: Folder>(alloc: Global, command: &Command, folder: &mut F) -> Mem<Outc
 // The answer to the words, before it is written.
 fn answer<F: Folder>(alloc: Global, words: &[String], folder: &mut F) -> Outcome
     ensures cause { cause.Cause (F.files folder.old) (texts words.now) result.before.0 result.report }
-    ensures ints { IfSome result.report (λ r. AreIntLines r.verdicts) }
     ensures read_fault { result.before.0 ≡ 3 → Rose (F.count folder.old) (F.count folder.new) }
     ensures later { F.count folder.old ≤ F.count folder.new }
     ensures files { F.files folder.new ≡ F.files folder.old }
@@ -173,6 +172,15 @@ fn put_text<S: Sink>(sink: &mut S, text: &str, before: Status) -> Status
         Put::Done => before,
         Put::Failed => Status(4),
     }
+}
+
+/// A run that had no memory for its words: the text of want of memory is put, and the status is 6.
+pub fn run_no_words<S: Sink>(sink: &mut S) -> Status
+    ensures text { cause.PutsText (S.written sink.old) (output_text [] 6 None) 6 result.0 (S.written sink.new) }
+    ensures write_fault { result.0 ≡ 4 → Rose (S.count sink.old) (S.count sink.new) }
+    ensures later { S.count sink.old ≤ S.count sink.new }
+{
+    put_text(sink, NO_MEMORY, Status(6))
 }
 
 /// The whole of a run, by one worker: reads the words, asks the folder for the entry's class, decides each site, and

@@ -1,24 +1,23 @@
 // A verdict for each site of a thin method.
-ghost use Rattle.std.specs.Prelude.{◌≡◌, ◌≤◌, ℕ, ℤ, Bool, List, [], ◌∷◌, ◌++◌, length, map, All, IfOk, OnOk};
+ghost use Rattle.std.specs.Prelude.{◌≡◌, ◌≤◌, ℕ, ℤ, Bool, List, length, map, IfOk};
 ghost use Rattle.cf_class.specs.Thin.{int_descriptor};
 ghost use Rattle.cf_class.specs.ThinCode.{HasInstrs, ThinCode};
 ghost use Rattle.jb_run.specs.Verdicts.{IsVerdictBy, AreVerdictsBy};
 ghost use Rattle.jb_run.specs.Justified.{AreJustified};
-ghost use Rattle.jb_run.specs.OutputText.{IsIntTree, IsIntVerdict, AreIntLines};
 ghost use Rattle.jb_run.specs.Satisfies.{bit_value};
 ghost use Rattle.jb_run.specs.Shown.{ShowsInt, ShowInts};
 ghost use Rattle.jb_run.specs.Sites.{IsSites};
 ghost use Rattle.jb_run.specs.Solved.{value_at};
-ghost use Rattle.jb_run.specs.Violates.{HasInts};
+ghost use Rattle.jb_run.specs.Violates.{HasInts, RunsGoOn};
 
 use crate::encoding::{Encoding, encode};
 use crate::gates::Bit;
+use crate::int_bits::IntBits;
 use crate::report::{Line, Verdict};
 use crate::sites::sites;
 use crate::solver::{Answer, solve};
-use crate::word::Word;
 use jv_base::{Goal, Input, List, Mem, MethodId, Tree};
-use std::alloc::{AllocError, Global};
+use std::alloc::Global;
 
 // The value of a bit. A variable past the list is false.
 fn bit_value(assignment: &[bool], bit: Bit) -> bool
@@ -34,7 +33,7 @@ fn bit_value(assignment: &[bool], bit: Bit) -> bool
 }
 
 // The int that the bits show.
-fn word_value(assignment: &[bool], word: &Word) -> i32
+fn word_value(assignment: &[bool], word: &IntBits) -> i32
     ensures { ShowsInt (value_at assignment.now) word.now result }
 {
     let mut pattern = 0u32;
@@ -47,9 +46,8 @@ fn word_value(assignment: &[bool], word: &Word) -> i32
 }
 
 // The ints that the words show, as an input.
-fn input_of(alloc: Global, inputs: &[Word], assignment: &[bool]) -> Mem<Input>
-    ensures ints { IfOk result (λ input. All IsIntTree input.args) }
-    ensures shows { IfOk result (λ input. (ints : List ℤ) × HasInts input ints × ShowInts (value_at assignment.now) inputs.now ints) }
+fn input_of(alloc: Global, inputs: &[IntBits], assignment: &[bool]) -> Mem<Input>
+    ensures { IfOk result (λ input. (ints : List ℤ) × HasInts input ints × ShowInts (value_at assignment.now) inputs.now ints) }
 {
     let mut args = Vec::new(alloc);
     'words: for word in inputs {
@@ -62,8 +60,7 @@ fn input_of(alloc: Global, inputs: &[Word], assignment: &[bool]) -> Mem<Input>
 
 // The verdict for a goal, from the solver's answer.
 fn decide(alloc: Global, encoding: &Encoding, goal: &Goal) -> Mem<Verdict>
-    ensures ints { IfOk result IsIntVerdict }
-    ensures justified { IfOk result (λ verdict. IsVerdictBy encoding.now goal.now verdict) }
+    ensures { IfOk result (λ verdict. IsVerdictBy encoding.now goal.now verdict) }
 {
     let bit = encoding.goal(goal.site.pc, goal.kind);
     match solve(alloc, &encoding.formula, bit)? {
@@ -80,7 +77,7 @@ pub fn verdicts(alloc: Global, method: &MethodId, code: &[u8], params: usize) ->
     requires short { length code.now ≤ 65535 }
     requires instrs { HasInstrs code.now }
     ensures sites { IfOk result (λ lines. IsSites method.now code.now (map (λ line. line.goal) lines)) }
-    ensures ints { IfOk result AreIntLines }
+    ensures goes_on { IfOk result (λ lines. (gives_int : Bool) (max_stack max_locals : ℕ) → method.now.desc ≡ int_descriptor params gives_int → ThinCode code.now params gives_int max_stack max_locals → RunsGoOn code.now method.now) }
     ensures justified { IfOk result (λ lines. (gives_int : Bool) (max_stack max_locals : ℕ) → method.now.desc ≡ int_descriptor params gives_int → ThinCode code.now params gives_int max_stack max_locals → AreJustified code.now method.now lines) }
 {
     let encoding = encode(alloc, code, params)?;
@@ -88,24 +85,15 @@ pub fn verdicts(alloc: Global, method: &MethodId, code: &[u8], params: usize) ->
     lines_for(alloc, &encoding, goals)
 }
 
-fn add_line(lines: &mut List<Line>, line: Line) -> Mem<()>
-    ensures { OnOk result (lines.new ≡ lines.old ++ line ∷ []) }
-{
-    lines.push(line).map_err(|_| AllocError)
-}
-
 // A line for each goal, in order.
 fn lines_for(alloc: Global, encoding: &Encoding, goals: List<Goal>) -> Mem<List<Line>>
     ensures goals { IfOk result (λ lines. map (λ line. line.goal) lines ≡ goals) }
-    ensures ints { IfOk result AreIntLines }
     ensures justified { IfOk result (AreVerdictsBy encoding.now) }
 {
-    let mut rest = goals.into_vec();
-    rest.reverse();
     let mut lines = List::new(alloc);
-    'goals: while let Some(goal) = rest.pop() {
+    'goals: for goal in goals {
         let verdict = decide(alloc, encoding, &goal)?;
-        add_line(&mut lines, Line { goal, verdict })?;
+        lines.add(Line { goal, verdict })?;
     }
     Ok(lines)
 }

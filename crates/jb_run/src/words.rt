@@ -1,5 +1,5 @@
 // The words of the command line: a folder, and the text form of an entry method.
-ghost use Rattle.jb_run.specs.Command.{CommandOf, IsUsage, IsOperand, texts};
+ghost use Rattle.jb_run.specs.Command.{CommandOf, IsUsage, IsPositional, texts};
 ghost use Rattle.std.specs.Prelude.{◌≡◌, ◌↔◌, ◌∷◌, [], List, ℕ, IsTrue, IfOk, IsErrOf};
 
 use jv_base::{MethodId, TextFault, read_entry};
@@ -20,8 +20,8 @@ pub enum WordsFault {
 }
 
 // A word that is not empty and does not begin with `-`.
-fn is_operand(word: &str) -> bool
-    ensures { IsTrue result ↔ IsOperand word.now }
+fn is_positional(word: &str) -> bool
+    ensures { IsTrue result ↔ IsPositional word.now }
 {
     match word.as_bytes() {
         [] => false,
@@ -39,7 +39,7 @@ pub fn read_words(alloc: Global, words: &[String]) -> Result<Command<'_>, WordsF
     };
     let dir = dir.as_str();
     let entry = entry.as_str();
-    if !is_operand(dir) || !is_operand(entry) {
+    if !is_positional(dir) || !is_positional(entry) {
         return Err(WordsFault::Usage);
     }
     match read_entry(alloc, entry) {

@@ -8,7 +8,7 @@ use Rattle.jv_base.specs.Descriptor.{IsMethodDescriptor}
 use Rattle.jv_base.specs.Spelling.{entry_spelling, site_spelling}
 
 -- a method that can be an entry: each of its names is Unicode text, and has its form; with that form no name has the character 0
-pub record IsEntry (m : MethodId) : Type 0 where
+pub record IsEntryMethod (m : MethodId) : Type 0 where
   pub class_text : IsUtf8 m.class
   pub name_text : IsUtf8 m.name
   pub desc_text : IsUtf8 m.desc
@@ -18,7 +18,7 @@ pub record IsEntry (m : MethodId) : Type 0 where
 
 -- the text forms of the methods that can be an entry
 abbrev pub IsEntryText : List ℕ → Type 0
-IsEntryText text = (m : MethodId) × IsEntry m × (text ≡ entry_spelling m)
+IsEntryText text = (m : MethodId) × IsEntryMethod m × (text ≡ entry_spelling m)
 
 -- the name of a method, which may be `<init>` or `<clinit>` (JVM Specification SE 8, 2.9)
 abbrev pub IsAnyMethodName : List ℕ → Type 0

@@ -1,10 +1,10 @@
+pub mod Calls
 pub mod Descriptor
 pub mod Entry
 pub mod Forms
 pub mod Front
+pub mod Laws
 pub mod Names
 pub mod Order
-pub mod SiteParts
 pub mod Spelling
 pub mod Types
-pub mod Units

@@ -18,13 +18,13 @@ abbrev pub IsUnit : ℕ → Type 0
 IsUnit u = u < 2 ^ 16
 
 -- a UTF-16 unit as `\u` and four hexadecimal digits in lower case
-unfoldable pub unit_text : ℕ → List ℕ
-unit_text u =
+unfoldable pub escaped_unit : ℕ → List ℕ
+escaped_unit u =
     92 ∷ 117 ∷ digit_glyph false (u / 4096) ∷ digit_glyph false (u / 256 % 16) ∷ digit_glyph false (u / 16 % 16) ∷ digit_glyph false (u % 16) ∷ []
 
 -- a character as its one or two UTF-16 units
 unfoldable pub escape_text : ℕ → List ℕ
-escape_text c = flat_map unit_text (encode_utf16 c)
+escape_text c = flat_map escaped_unit (encode_utf16 c)
 
 -- a character of a name: itself where it is plain, and else its escape
 unfoldable pub character_text : ℕ → List ℕ

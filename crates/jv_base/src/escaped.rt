@@ -1,10 +1,9 @@
 // How far a text is an escape of a character.
-ghost use Rattle.std.specs.Prelude.{◌≡◌, ◌≢◌, ℕ, ◌+◌, ◌*◌, ◌<◌, ◌≤◌, ◌∷◌, ◌++◌, ◌↔◌, false, List, length, IfSome, IfNone, IfOk, IfErr, IsTrue};
-ghost use Rattle.std.specs.Fmt.{digit_glyph};
+ghost use Rattle.std.specs.Prelude.{◌≡◌, ◌+◌, ◌*◌, ◌<◌, ◌≤◌, ◌++◌, ◌↔◌, length, IfSome, IfNone, IfOk, IfErr, IsTrue};
 ghost use Rattle.jv_base.specs.Forms.{IsEscape};
-ghost use Rattle.jv_base.specs.Front.{IsLongestFront};
-ghost use Rattle.jv_base.specs.Spelling.{unit_text};
-ghost use Rattle.jv_base.specs.Units.{IsEscapeUnit, IsUnitText, IsBlock, HasUnit};
+ghost use Rattle.jv_base.specs.Calls.Fronts.{IsLongestFront};
+ghost use Rattle.jv_base.specs.Spelling.{escaped_unit};
+ghost use Rattle.jv_base.specs.Calls.Units.{IsEscapeUnit, IsEscapedUnit, IsBlock, HasUnit, HasDigit, EndsAt};
 
 use crate::cut::after_byte;
 use crate::reading::digit_of;
@@ -33,8 +32,8 @@ fn has_unit(second: bool, least: u16, size: u16) -> bool
 // such units, and what follows the digit.
 fn digit_at(second: bool, least: u16, size: u16, text: &[u8]) -> Option<(u16, &[u8])>
     requires { IsBlock (least + 15 * size) size }
-    ensures found { IfSome result (λ r. (d : ℕ) × (d < 16) × (r.0 ≡ least + d * size) × ((text.now ≡ digit_glyph false d ∷ r.1.now) × HasUnit second r.0 size)) }
-    ensures none { IfNone result ((d : ℕ) (rest : List ℕ) → d < 16 → text.now ≡ digit_glyph false d ∷ rest → HasUnit second (least + d * size) size → ⊥) }
+    ensures found { IfSome result (λ r. HasDigit second least size text.now r.0 r.1.now) }
+    ensures none { IfNone result (EndsAt second least size text.now) }
 {
     let (digit, rest) = digit_of(text)?;
     let unit = least + digit * size;
@@ -48,8 +47,8 @@ fn digit_at(second: bool, least: u16, size: u16, text: &[u8]) -> Option<(u16, &[
 // The unit of an escape, its second or its first, that a text begins with, and what follows it; else the length of the
 // longest prefix that begins the text of such a unit.
 fn unit_at(second: bool, text: &[u8]) -> Result<(u16, &[u8]), usize>
-    ensures found { IfOk result (λ r. IsEscapeUnit second r.0 × (text.now ≡ unit_text r.0 ++ r.1.now)) }
-    ensures stops { IfErr result (λ n. (n < 6) × IsLongestFront (IsUnitText second) text.now n) }
+    ensures found { IfOk result (λ r. IsEscapeUnit second r.0 × (text.now ≡ escaped_unit r.0 ++ r.1.now)) }
+    ensures fault { IfErr result (λ n. (n < 6) × IsLongestFront (IsEscapedUnit second) text.now n) }
 {
     let Some(rest) = after_byte(text, b'\\') else {
         return Err(0);

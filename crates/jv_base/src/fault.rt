@@ -1,4 +1,8 @@
 // What a reader of a text refuses.
+ghost use Rattle.std.specs.Prelude.{◌≡◌};
+ghost use Rattle.jv_base.specs.declared.fault.TextFault.TheVariants.{NoMemory};
+
+use std::alloc::AllocError;
 use std::fmt;
 use thiserror::Error;
 
@@ -11,4 +15,12 @@ pub enum TextFault {
     Bad(u64),
     #[error("no memory")]
     NoMemory,
+}
+
+impl From<AllocError> for TextFault {
+    ghost from_gives = { λ _ e. e ≡ NoMemory };
+
+    fn from(_e: AllocError) -> TextFault {
+        TextFault::NoMemory
+    }
 }

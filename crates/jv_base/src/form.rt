@@ -1,7 +1,8 @@
 // The forms of names and descriptors, character by character.
 ghost use Rattle.std.specs.Prelude.{◌≡◌, ◌↔◌, IsTrue};
 ghost use Rattle.jv_base.specs.Descriptor.{is_base_letter};
-ghost use Rattle.jv_base.specs.Forms.{IsOfForm, is_name_character, class_step, method_step, parameters_step, field_step, named_step, step, start_of, takes_names, is_whole};
+ghost use Rattle.jv_base.specs.Forms.{IsOfForm};
+ghost use Rattle.jv_base.specs.Calls.Progress.{is_name_character, class_step, method_step, parameters_step, field_step, named_step, step, start_of, takes_names, is_whole};
 
 /// What a text is to be.
 #[derive(Clone, Copy, Debug, PartialEq, Eq)]

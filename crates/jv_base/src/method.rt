@@ -1,8 +1,8 @@
 // Methods, fields, places in code, and what can go wrong there.
 ghost use Rattle.std.specs.Prelude.{◌≡◌, IfOk};
 
-use crate::{Name, TryCopy};
-use std::alloc::{AllocError, Global};
+use crate::{Mem, Name, TryCopy};
+use std::alloc::Global;
 
 /// A method by its class, name and descriptor (JVM Specification SE 8, 4.3.3).
 #[derive(Debug, Drop)]
@@ -13,7 +13,7 @@ pub struct MethodId {
 }
 
 impl MethodId {
-    pub fn copy(&self, alloc: Global) -> Result<MethodId, AllocError>
+    pub fn copy(&self, alloc: Global) -> Mem<MethodId>
         ensures { IfOk result (λ copy. copy ≡ self.now) }
     {
         Ok(MethodId {
@@ -25,12 +25,8 @@ impl MethodId {
 }
 
 impl TryCopy for MethodId {
-    fn copy(&self, alloc: Global) -> Result<MethodId, AllocError> {
-        Ok(MethodId {
-            class: self.class.copy(alloc)?,
-            name: self.name.copy(alloc)?,
-            desc: self.desc.copy(alloc)?,
-        })
+    fn copy(&self, alloc: Global) -> Mem<MethodId> {
+        MethodId::copy(self, alloc)
     }
 }
 

@@ -3,8 +3,8 @@ ghost use Rattle.std.specs.Prelude.{◌≡◌, ◌<◌, [], ◌++◌, length, sl
 ghost use Rattle.std.specs.Ordering.{nat_cmp};
 ghost use Rattle.std.specs.Cmp.Lexicographic.{slice_cmp};
 
-use crate::TryCopy;
-use std::alloc::{AllocError, Global};
+use crate::{Mem, TryCopy};
+use std::alloc::Global;
 use std::cmp::Ordering;
 use std::marker::Model;
 
@@ -33,7 +33,7 @@ impl Name {
         }
     }
 
-    pub fn from_text(alloc: Global, text: &str) -> Result<Name, AllocError>
+    pub fn from_text(alloc: Global, text: &str) -> Mem<Name>
         ensures { IfOk result (λ name. name ≡ text.now) }
     {
         Ok(Name {
@@ -81,15 +81,14 @@ impl Name {
     }
 
     /// Puts a text at the end. For want of memory the name stays.
-    pub fn push_text(&mut self, text: &str) -> Result<(), AllocError>
+    pub fn push_text(&mut self, text: &str) -> Mem<()>
         ensures ok { OnOk result (self.new ≡ self.old ++ text.now) }
         ensures unchanged { OnErr result (self.new ≡ self.old) }
     {
-        self.text.push_str(text)?;
-        Ok(())
+        self.text.push_str(text)
     }
 
-    pub fn copy(&self, alloc: Global) -> Result<Name, AllocError>
+    pub fn copy(&self, alloc: Global) -> Mem<Name>
         ensures { IfOk result (λ copy. copy ≡ self.now) }
     {
         Name::from_text(alloc, self.text.as_str())
@@ -110,7 +109,7 @@ impl Name {
 }
 
 impl TryCopy for Name {
-    fn copy(&self, alloc: Global) -> Result<Name, AllocError> {
-        Name::from_text(alloc, self.text.as_str())
+    fn copy(&self, alloc: Global) -> Mem<Name> {
+        Name::copy(self, alloc)
     }
 }

@@ -4,17 +4,19 @@ ghost use Rattle.std.specs.Char.{IsScalar};
 ghost use Rattle.std.specs.Str.{IsUtf8};
 ghost use Rattle.std.specs.Fmt.{digit_glyph};
 ghost use Rattle.jv_base.specs.declared.method.MethodId.{MethodId};
-ghost use Rattle.jv_base.specs.Entry.{IsEntry, IsEntryText};
-ghost use Rattle.jv_base.specs.Forms.{IsSpelled, IsTextOf};
-ghost use Rattle.jv_base.specs.Front.{HasFront, IsLongestFront, Joined, StopsAt};
-ghost use Rattle.jv_base.specs.Spelling.{IsUnit, unit_text, escape_text, character_text, name_text, entry_spelling};
+ghost use Rattle.jv_base.specs.Entry.{IsEntryMethod, IsEntryText};
+ghost use Rattle.jv_base.specs.Forms.{IsTextOf};
+ghost use Rattle.jv_base.specs.Calls.Parts.{IsMethodText};
+ghost use Rattle.jv_base.specs.Calls.Fronts.{HasFront, LeavesAt};
+ghost use Rattle.jv_base.specs.Front.{StopsAt};
+ghost use Rattle.jv_base.specs.Spelling.{IsUnit, escaped_unit, escape_text, character_text, name_text, entry_spelling};
 
 use crate::cut::{after_byte, cut};
 use crate::form::Form;
 use crate::spelled::{part_of, spelled_front};
 use crate::spelling::is_plain;
 use crate::{Mem, MethodId, Name, TextFault};
-use std::alloc::{AllocError, Global};
+use std::alloc::Global;
 
 fn hex_value(digit: u8) -> Option<u16>
     ensures found { IfSome result (λ v. (v < 16) × (digit ≡ digit_glyph false v)) }
@@ -39,8 +41,8 @@ pub(crate) fn digit_of(text: &[u8]) -> Option<(u16, &[u8])>
 
 // The UTF-16 unit that a text begins with, and what follows it.
 fn unit_of(text: &[u8]) -> Option<(u16, &[u8])>
-    ensures found { IfSome result (λ r. IsUnit r.0 × (text.now ≡ unit_text r.0 ++ r.1.now)) }
-    ensures none { IfNone result ((rest : List ℕ) → HasFront IsUnit unit_text text.now rest → ⊥) }
+    ensures found { IfSome result (λ r. IsUnit r.0 × (text.now ≡ escaped_unit r.0 ++ r.1.now)) }
+    ensures none { IfNone result ((rest : List ℕ) → HasFront IsUnit escaped_unit text.now rest → ⊥) }
 {
     let rest = after_byte(text, b'\\')?;
     let rest = after_byte(rest, b'u')?;
@@ -61,8 +63,8 @@ fn is_low_surrogate(unit: u16) -> bool
 fn pair_of(high: u16, text: &[u8]) -> Option<(char, &[u8])>
     requires from { 0xd800 ≤ high }
     requires to { high < 0xe000 }
-    ensures found { IfSome result (λ r. IsScalar r.0 × (unit_text high ++ text.now ≡ escape_text r.0 ++ r.1.now)) }
-    ensures none { IfNone result ((rest : List ℕ) → HasFront IsScalar escape_text (unit_text high ++ text.now) rest → ⊥) }
+    ensures found { IfSome result (λ r. IsScalar r.0 × (escaped_unit high ++ text.now ≡ escape_text r.0 ++ r.1.now)) }
+    ensures none { IfNone result ((rest : List ℕ) → HasFront IsScalar escape_text (escaped_unit high ++ text.now) rest → ⊥) }
 {
     if high >= 0xdc00 {
         return None;
@@ -111,18 +113,16 @@ pub(crate) fn name_of(alloc: Global, text: &[u8]) -> Mem<Option<Name>>
     ensures found { IfOk result (λ o. IfSome o (λ n. IsUtf8 n × (text.now ≡ name_text n))) }
     ensures none { IfOk result (λ o. IfNone o ((n : List ℕ) → IsUtf8 n → text.now ≡ name_text n → ⊥)) }
 {
-    let mut name = Name::new(alloc);
+    let mut name = String::new(alloc);
     let mut rest = text;
     while !rest.is_empty() {
         let Some((c, after)) = character_of(rest) else {
             return Ok(None);
         };
-        if name.push(c).is_err() {
-            return Err(AllocError);
-        }
+        name.push(c)?;
         rest = after;
     }
-    Ok(Some(name))
+    Ok(Some(Name::from_string(name)))
 }
 
 // The name and the descriptor of the method whose text form, without the class, this is. The place is that of the text
@@ -131,10 +131,7 @@ fn read_method(alloc: Global, text: &[u8], place: u64) -> Result<(Name, Name), T
     requires { place + length text.now < 2 ^ 64 }
     ensures found { IfOk result (λ r. IsTextOf Form.MethodName r.0 × IsTextOf Form.MethodDescriptor r.1
         × (text.now ≡ name_text r.0 ++ 58 ∷ name_text r.1)) }
-    ensures bad { (at : ℕ) → result ≡ Err (TextFault.Bad at)
-        → Joined 58 (IsSpelled Form.MethodName) (IsSpelled Form.MethodDescriptor) text.now → ⊥ }
-    ensures place { (at : ℕ) → result ≡ Err (TextFault.Bad at) → (count : ℕ) × (at ≡ place + count)
-        × IsLongestFront (Joined 58 (IsSpelled Form.MethodName) (IsSpelled Form.MethodDescriptor)) text.now count }
+    ensures fault { (at : ℕ) → result ≡ Err (TextFault.Bad at) → LeavesAt IsMethodText text.now place at }
 {
     let Some((name, desc)) = cut(text, b':') else {
         return Err(TextFault::Bad(place + spelled_front(Form::MethodName, text) as u64));
@@ -148,10 +145,10 @@ fn read_method(alloc: Global, text: &[u8], place: u64) -> Result<(Name, Name), T
 /// The method whose text form this is. `Bad` comes exactly where it is no entry's, with the number of characters of its
 /// longest prefix that begins one.
 pub fn read_entry(alloc: Global, text: &str) -> Result<MethodId, TextFault>
-    ensures found { IfOk result (λ m. IsEntry m × (text.now ≡ entry_spelling m)) }
-    ensures bad { (place : ℕ) → result ≡ Err (TextFault.Bad place)
-        → (m : MethodId) → IsEntry m → text.now ≡ entry_spelling m → ⊥ }
-    ensures place { (place : ℕ) → result ≡ Err (TextFault.Bad place) → StopsAt IsEntryText text.now place }
+    ensures found { IfOk result (λ m. IsEntryMethod m × (text.now ≡ entry_spelling m)) }
+    ensures outside { (place : ℕ) → result ≡ Err (TextFault.Bad place)
+        → (m : MethodId) → IsEntryMethod m → text.now ≡ entry_spelling m → ⊥ }
+    ensures fault { (place : ℕ) → result ≡ Err (TextFault.Bad place) → StopsAt IsEntryText text.now place }
 {
     let bytes = text.as_bytes();
     let Some((class, method)) = cut(bytes, b'.') else {
@@ -162,8 +159,3 @@ pub fn read_entry(alloc: Global, text: &str) -> Result<MethodId, TextFault>
     let (name, desc) = read_method(alloc, method, method_place)?;
     Ok(MethodId { class, name, desc })
 }
-
-/// No two entries have one text form, so what `read_entry` gives is the one with this text.
-pub fn one_entry()
-    ensures { (m n : MethodId) → IsEntry m → IsEntry n → entry_spelling m ≡ entry_spelling n → m ≡ n }
-{}

@@ -6,8 +6,9 @@ ghost use Rattle.jv_base.specs.declared.method.Goal.{Goal};
 ghost use Rattle.jv_base.specs.declared.method.Kind.{Kind};
 ghost use Rattle.jv_base.specs.Descriptor.{IsMethodDescriptor};
 ghost use Rattle.jv_base.specs.Entry.{IsAnyMethodName, IsSite, IsSiteText};
-ghost use Rattle.jv_base.specs.Front.{IsLongestFront, StopsAt};
-ghost use Rattle.jv_base.specs.SiteParts.{KindText, PcText, PlaceText, DescText, MethodText, MemberText};
+ghost use Rattle.jv_base.specs.Calls.Fronts.{IsLongestFront, LeavesAt};
+ghost use Rattle.jv_base.specs.Front.{StopsAt};
+ghost use Rattle.jv_base.specs.Calls.Parts.{IsKindText, IsPcText, IsPlaceText, IsDescText, IsAnyMethodText, IsMemberText};
 ghost use Rattle.jv_base.specs.Spelling.{name_text, kind_name, site_spelling};
 
 use crate::cut::cut;
@@ -49,7 +50,7 @@ fn kind_named(text: &[u8]) -> Option<Kind>
 }
 
 fn kind_front(text: &[u8]) -> usize
-    ensures longest { IsLongestFront KindText text.now result }
+    ensures longest { IsLongestFront IsKindText text.now result }
     ensures within { result ≤ length text.now }
 {
     word_front(text, "null")
@@ -66,9 +67,7 @@ fn kind_front(text: &[u8]) -> usize
 fn kind_of(text: &[u8], place: u64) -> Result<Kind, TextFault>
     requires { place + length text.now < 2 ^ 64 }
     ensures found { IfOk result (λ kind. text.now ≡ kind_name kind) }
-    ensures bad { (at : ℕ) → result ≡ Err (TextFault.Bad at) → KindText text.now → ⊥ }
-    ensures place { (at : ℕ) → result ≡ Err (TextFault.Bad at)
-        → (count : ℕ) × (at ≡ place + count) × IsLongestFront KindText text.now count }
+    ensures fault { (at : ℕ) → result ≡ Err (TextFault.Bad at) → LeavesAt IsKindText text.now place at }
 {
     match kind_named(text) {
         Some(kind) => Ok(kind),
@@ -90,7 +89,7 @@ fn with_digit(value: u16, digit: u8) -> Option<u16>
 /// The pc that a text begins with, and the number of its digits, where 0 is no pc.
 fn leading_pc(text: &[u8]) -> (u16, usize)
     ensures value { 0 < result.1 → take result.1 text.now ≡ decimal result.0 }
-    ensures longest { IsLongestFront PcText text.now result.1 }
+    ensures longest { IsLongestFront IsPcText text.now result.1 }
     ensures within { result.1 ≤ length text.now }
 {
     let mut value = 0;
@@ -110,9 +109,7 @@ fn leading_pc(text: &[u8]) -> (u16, usize)
 fn pc_of(text: &[u8], place: u64) -> Result<u16, TextFault>
     requires { place + length text.now < 2 ^ 64 }
     ensures found { IfOk result (λ pc. text.now ≡ decimal pc) }
-    ensures bad { (at : ℕ) → result ≡ Err (TextFault.Bad at) → PcText text.now → ⊥ }
-    ensures place { (at : ℕ) → result ≡ Err (TextFault.Bad at)
-        → (count : ℕ) × (at ≡ place + count) × IsLongestFront PcText text.now count }
+    ensures fault { (at : ℕ) → result ≡ Err (TextFault.Bad at) → LeavesAt IsPcText text.now place at }
 {
     let (pc, digits) = leading_pc(text);
     if digits > 0 && digits == text.len() {
@@ -126,9 +123,7 @@ fn pc_of(text: &[u8], place: u64) -> Result<u16, TextFault>
 fn pc_and_kind(text: &[u8], place: u64) -> Result<(u16, Kind), TextFault>
     requires { place + length text.now < 2 ^ 64 }
     ensures found { IfOk result (λ r. text.now ≡ decimal r.0 ++ 58 ∷ kind_name r.1) }
-    ensures bad { (at : ℕ) → result ≡ Err (TextFault.Bad at) → PlaceText text.now → ⊥ }
-    ensures place { (at : ℕ) → result ≡ Err (TextFault.Bad at)
-        → (count : ℕ) × (at ≡ place + count) × IsLongestFront PlaceText text.now count }
+    ensures fault { (at : ℕ) → result ≡ Err (TextFault.Bad at) → LeavesAt IsPlaceText text.now place at }
 {
     let Some((pc_text, kind_text)) = cut(text, b':') else {
         return Err(TextFault::Bad(place + leading_pc(text).1 as u64));
@@ -143,9 +138,7 @@ fn desc_and_rest(alloc: Global, text: &[u8], place: u64) -> Result<(Name, u16, K
     requires { place + length text.now < 2 ^ 64 }
     ensures found { IfOk result (λ r. IsUtf8 r.0 × IsMethodDescriptor r.0
         × (text.now ≡ name_text r.0 ++ 64 ∷ decimal r.1 ++ 58 ∷ kind_name r.2)) }
-    ensures bad { (at : ℕ) → result ≡ Err (TextFault.Bad at) → DescText text.now → ⊥ }
-    ensures place { (at : ℕ) → result ≡ Err (TextFault.Bad at)
-        → (count : ℕ) × (at ≡ place + count) × IsLongestFront DescText text.now count }
+    ensures fault { (at : ℕ) → result ≡ Err (TextFault.Bad at) → LeavesAt IsDescText text.now place at }
 {
     let form = Form::MethodDescriptor;
     let Some((desc_text, rest)) = cut(text, b'@') else {
@@ -170,7 +163,7 @@ fn special_name(text: &[u8]) -> Option<&'static str>
 }
 
 fn method_front(text: &[u8]) -> usize
-    ensures longest { IsLongestFront MethodText text.now result }
+    ensures longest { IsLongestFront IsAnyMethodText text.now result }
     ensures within { result ≤ length text.now }
 {
     spelled_front(Form::MethodName, text)
@@ -182,12 +175,10 @@ fn method_front(text: &[u8]) -> usize
 fn method_of(alloc: Global, text: &[u8], place: u64) -> Result<Name, TextFault>
     requires { place + length text.now < 2 ^ 64 }
     ensures found { IfOk result (λ n. IsUtf8 n × IsAnyMethodName n × (text.now ≡ name_text n)) }
-    ensures bad { (at : ℕ) → result ≡ Err (TextFault.Bad at) → MethodText text.now → ⊥ }
-    ensures place { (at : ℕ) → result ≡ Err (TextFault.Bad at)
-        → (count : ℕ) × (at ≡ place + count) × IsLongestFront MethodText text.now count }
+    ensures fault { (at : ℕ) → result ≡ Err (TextFault.Bad at) → LeavesAt IsAnyMethodText text.now place at }
 {
     if let Some(special) = special_name(text) {
-        return Name::from_text(alloc, special).map_err(|_| TextFault::NoMemory);
+        return Ok(Name::from_text(alloc, special)?);
     }
     match part_of(alloc, Form::MethodName, text, place) {
         Ok(name) => Ok(name),
@@ -205,9 +196,7 @@ fn method_and_rest(
     requires { place + length text.now < 2 ^ 64 }
     ensures found { IfOk result (λ r. IsUtf8 r.0 × IsAnyMethodName r.0 × IsUtf8 r.1 × IsMethodDescriptor r.1
         × (text.now ≡ name_text r.0 ++ 58 ∷ name_text r.1 ++ 64 ∷ decimal r.2 ++ 58 ∷ kind_name r.3)) }
-    ensures bad { (at : ℕ) → result ≡ Err (TextFault.Bad at) → MemberText text.now → ⊥ }
-    ensures place { (at : ℕ) → result ≡ Err (TextFault.Bad at)
-        → (count : ℕ) × (at ≡ place + count) × IsLongestFront MemberText text.now count }
+    ensures fault { (at : ℕ) → result ≡ Err (TextFault.Bad at) → LeavesAt IsMemberText text.now place at }
 {
     let Some((name_text, rest)) = cut(text, b':') else {
         return Err(TextFault::Bad(place + method_front(text) as u64));
@@ -221,8 +210,8 @@ fn method_and_rest(
 /// it is no goal's, with the number of characters of its longest prefix that begins one.
 pub fn read_site(alloc: Global, text: &str) -> Result<Goal, TextFault>
     ensures found { IfOk result (λ g. IsSite g × (text.now ≡ site_spelling g)) }
-    ensures bad { (place : ℕ) → result ≡ Err (TextFault.Bad place) → IsSiteText text.now → ⊥ }
-    ensures place { (place : ℕ) → result ≡ Err (TextFault.Bad place) → StopsAt IsSiteText text.now place }
+    ensures outside { (place : ℕ) → result ≡ Err (TextFault.Bad place) → IsSiteText text.now → ⊥ }
+    ensures fault { (place : ℕ) → result ≡ Err (TextFault.Bad place) → StopsAt IsSiteText text.now place }
 {
     let bytes = text.as_bytes();
     let Some((class_text, rest)) = cut(bytes, b'.') else {
@@ -236,8 +225,3 @@ pub fn read_site(alloc: Global, text: &str) -> Result<Goal, TextFault>
         kind,
     })
 }
-
-/// No two goals have one text form, so what `read_site` gives is the one with this text.
-pub fn one_site()
-    ensures { (g h : Goal) → IsSite g → IsSite h → site_spelling g ≡ site_spelling h → g ≡ h }
-{}

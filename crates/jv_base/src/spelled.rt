@@ -2,8 +2,9 @@
 ghost use Rattle.std.specs.Prelude.{◌≡◌, ℕ, ◌+◌, ◌^◌, ◌<◌, ◌≤◌, ◌++◌, List, Some, None, length, IfSome, IfNone, IfOk};
 ghost use Rattle.std.specs.Char.{IsScalar};
 ghost use Rattle.std.specs.Str.{IsUtf8};
-ghost use Rattle.jv_base.specs.Forms.{IsOfForm, IsSpelled, step};
-ghost use Rattle.jv_base.specs.Front.{IsLongestFront};
+ghost use Rattle.jv_base.specs.Forms.{IsOfForm, IsSpelled};
+ghost use Rattle.jv_base.specs.Calls.Progress.{step};
+ghost use Rattle.jv_base.specs.Calls.Fronts.{IsLongestFront, LeavesAt};
 ghost use Rattle.jv_base.specs.Spelling.{character_text, name_text};
 
 use crate::escaped::escape_front;
@@ -46,14 +47,9 @@ pub(crate) fn spelled_front(form: Form, text: &[u8]) -> usize
 pub(crate) fn part_of(alloc: Global, form: Form, text: &[u8], place: u64) -> Result<Name, TextFault>
     requires { place + length text.now < 2 ^ 64 }
     ensures found { IfOk result (λ n. IsUtf8 n × IsOfForm form n × (text.now ≡ name_text n)) }
-    ensures bad { (at : ℕ) → result ≡ Err (TextFault.Bad at) → IsSpelled form text.now → ⊥ }
-    ensures place { (at : ℕ) → result ≡ Err (TextFault.Bad at)
-        → (count : ℕ) × (at ≡ place + count) × IsLongestFront (IsSpelled form) text.now count }
+    ensures fault { (at : ℕ) → result ≡ Err (TextFault.Bad at) → LeavesAt (IsSpelled form) text.now place at }
 {
-    let Ok(name) = name_of(alloc, text) else {
-        return Err(TextFault::NoMemory);
-    };
-    match name {
+    match name_of(alloc, text)? {
         Some(name) if is_of_form(form, name.as_str().as_bytes()) => Ok(name),
         _ => Err(TextFault::Bad(place + spelled_front(form, text) as u64)),
     }

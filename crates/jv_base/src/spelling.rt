@@ -2,7 +2,7 @@
 ghost use Rattle.std.specs.Prelude.{◌≡◌, ◌<◌, [], ◌∷◌, ◌++◌, false, string_bytes, IfOk, OnOk};
 ghost use Rattle.std.specs.List.{flat_map};
 ghost use Rattle.std.specs.Fmt.{digit_glyph};
-ghost use Rattle.jv_base.specs.Spelling.{is_plain, unit_text, escape_text, character_text, name_text, entry_spelling, kind_name, site_spelling};
+ghost use Rattle.jv_base.specs.Spelling.{is_plain, escaped_unit, escape_text, character_text, name_text, entry_spelling, kind_name, site_spelling};
 
 use crate::{Goal, Kind, Mem, MethodId, Name};
 use std::alloc::Global;
@@ -27,9 +27,9 @@ fn push_hex_digit(out: &mut String, value: u16) -> Mem<()>
     out.push(char::from(digit))
 }
 
-#[tactic(auto, unfolding(crate::specs::Spelling::unit_text))]
+#[tactic(auto, unfolding(crate::specs::Spelling::escaped_unit))]
 fn push_unit(out: &mut String, unit: u16) -> Mem<()>
-    ensures { OnOk result (string_bytes out.new ≡ string_bytes out.old ++ unit_text unit) }
+    ensures { OnOk result (string_bytes out.new ≡ string_bytes out.old ++ escaped_unit unit) }
 {
     out.push_str("\\u")?;
     push_hex_digit(out, unit / 4096)?;
@@ -39,7 +39,7 @@ fn push_unit(out: &mut String, unit: u16) -> Mem<()>
 }
 
 fn push_units(out: &mut String, units: &[u16]) -> Mem<()>
-    ensures { OnOk result (string_bytes out.new ≡ string_bytes out.old ++ flat_map unit_text units.now) }
+    ensures { OnOk result (string_bytes out.new ≡ string_bytes out.old ++ flat_map escaped_unit units.now) }
 {
     for unit in units {
         push_unit(out, *unit)?;

@@ -1,16 +1,17 @@
 // The readers of descriptors (JVM Specification SE 8, 4.3.2 and 4.3.3).
-ghost use Rattle.std.specs.Prelude.{◌≡◌, ◌≢◌, ℕ, ◌+◌, false, List as list_of, Option, ◌∷◌, ◌++◌, map, replicate, slice_index, All, IfSome, IfNone, IfOk, IsTrue};
+ghost use Rattle.std.specs.Prelude.{◌≡◌, ◌≢◌, ℕ, ◌+◌, false, List as list_of, Option, ◌∷◌, ◌++◌, map, replicate, Some, None, All, IfSome, IfNone, IfOk, IsTrue};
 ghost use Rattle.std.specs.List.{flat_map};
 ghost use Rattle.jv_base.specs.declared.value.Desc.{Desc};
 ghost use Rattle.jv_base.specs.Descriptor.{FieldType, is_base_letter, base, IsElementType, IsFieldType, IsMethodType, IsFieldDescriptor, IsMethodDescriptor, element_text, field_text, method_text, result_text};
 ghost use Rattle.jv_base.specs.Forms.{IsTextOf};
-ghost use Rattle.jv_base.specs.Front.{HasFront, StopsAt};
+ghost use Rattle.jv_base.specs.Calls.Fronts.{HasFront};
+ghost use Rattle.jv_base.specs.Front.{StopsAt};
 ghost use Rattle.jv_base.specs.Types.{field_of, method_of, result_of, IsDescriptorText, IsFieldText};
 
 use crate::form::{Form, is_of_form, start_of, step};
 use crate::{Desc, List, Mem, Name, TextFault, Ty};
 use sqlite_items::Boxed;
-use std::alloc::{AllocError, Global};
+use std::alloc::Global;
 
 /// Where a text leaves its form.
 fn place_of(form: Form, text: &str) -> u64
@@ -84,7 +85,7 @@ fn element_at(alloc: Global, text: &str) -> Mem<Option<(Ty, &str)>>
 // How many `[` a text begins with, and what follows them.
 fn brackets_at(text: &str) -> (usize, &str)
     ensures parts { text.now ≡ replicate result.0 91 ++ result.1.now }
-    ensures all { slice_index result.1.now 0 ≢ 91 }
+    ensures all { (rest : list_of ℕ) → result.1.now ≢ 91 ∷ rest }
 {
     let mut dimensions = 0;
     let mut rest = text;
@@ -145,9 +146,7 @@ fn parameters_at(alloc: Global, text: &str) -> Mem<(List<Ty>, &str)>
     let mut parameters = List::new(alloc);
     let mut rest = text;
     while let Some((ty, after)) = field_at(alloc, rest)? {
-        if parameters.push(ty).is_err() {
-            return Err(AllocError);
-        }
+        parameters.add(ty)?;
         rest = after;
     }
     Ok((parameters, rest))
@@ -185,38 +184,36 @@ fn descriptor_in(alloc: Global, text: &str) -> Mem<Option<Desc>>
     }
 }
 
+// What was read, or where the text leaves its form.
+fn or_place<T>(read: Option<T>, form: Form, text: &str) -> Result<T, TextFault>
+    ensures found { IfOk result (λ value. read ≡ Some value) }
+    ensures outside { (place : ℕ) → result ≡ Err (TextFault.Bad place) → read ≡ None }
+    ensures fault { (place : ℕ) → result ≡ Err (TextFault.Bad place) → StopsAt (IsTextOf form) text.now place }
+{
+    match read {
+        Some(value) => Ok(value),
+        None => Err(TextFault::Bad(place_of(form, text))),
+    }
+}
+
 /// The types of a method's descriptor (JVM Specification SE 8, 4.3.3). `Bad` comes exactly where the text is none, with
 /// the number of characters of its longest prefix that begins one.
 pub fn read_descriptor(alloc: Global, text: &Name) -> Result<Desc, TextFault>
     ensures found { IfOk result (λ d. IsMethodType (method_of d) × (text.now ≡ method_text (method_of d))) }
-    ensures bad { (place : ℕ) → result ≡ Err (TextFault.Bad place) → IsMethodDescriptor text.now → ⊥ }
-    ensures place { (place : ℕ) → result ≡ Err (TextFault.Bad place) → StopsAt IsDescriptorText text.now place }
+    ensures outside { (place : ℕ) → result ≡ Err (TextFault.Bad place) → IsMethodDescriptor text.now → ⊥ }
+    ensures fault { (place : ℕ) → result ≡ Err (TextFault.Bad place) → StopsAt IsDescriptorText text.now place }
 {
     let text = text.as_str();
-    match descriptor_in(alloc, text) {
-        Ok(Some(desc)) => Ok(desc),
-        Ok(None) => Err(TextFault::Bad(place_of(Form::MethodDescriptor, text))),
-        Err(_) => Err(TextFault::NoMemory),
-    }
+    or_place(descriptor_in(alloc, text)?, Form::MethodDescriptor, text)
 }
 
 /// The type of a field's descriptor (JVM Specification SE 8, 4.3.2). `Bad` comes exactly where the text is none, with
 /// the number of characters of its longest prefix that begins one.
 pub fn read_field_type(alloc: Global, text: &Name) -> Result<Ty, TextFault>
     ensures found { IfOk result (λ t. IsFieldType (field_of t) × (text.now ≡ field_text (field_of t))) }
-    ensures bad { (place : ℕ) → result ≡ Err (TextFault.Bad place) → IsFieldDescriptor text.now → ⊥ }
-    ensures place { (place : ℕ) → result ≡ Err (TextFault.Bad place) → StopsAt IsFieldText text.now place }
+    ensures outside { (place : ℕ) → result ≡ Err (TextFault.Bad place) → IsFieldDescriptor text.now → ⊥ }
+    ensures fault { (place : ℕ) → result ≡ Err (TextFault.Bad place) → StopsAt IsFieldText text.now place }
 {
     let text = text.as_str();
-    match field_in(alloc, text) {
-        Ok(Some(ty)) => Ok(ty),
-        Ok(None) => Err(TextFault::Bad(place_of(Form::FieldDescriptor, text))),
-        Err(_) => Err(TextFault::NoMemory),
-    }
+    or_place(field_in(alloc, text)?, Form::FieldDescriptor, text)
 }
-
-/// No two descriptors have one text, so what `read_descriptor` gives is the one with this text.
-pub fn one_descriptor()
-    ensures { (a b : Desc) → IsMethodType (method_of a) → IsMethodType (method_of b)
-        → method_text (method_of a) ≡ method_text (method_of b) → a ≡ b }
-{}

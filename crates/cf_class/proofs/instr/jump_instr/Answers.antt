@@ -1,6 +1,6 @@
 use Rattle.std.proofs.Common.{sym, arith, refl}
 use Rattle.cf_class.specs.Instr.{format_of, opcodes}
-use Rattle.cf_class.proofs.Opcodes.{not_jump}
+use Rattle.cf_class.proofs.OpcodeLemmas.{not_jump}
 use Rattle.cf_class.proofs.instr.jump_instr.Goals as goal
 
 pub returns-in-153 : goal.returns-in-153
@@ -24,4 +24,6 @@ unfolding format_of opcodes
 returns-in-167 c = rw c.in-167.is refl
 
 pub returns-in_default : goal.returns-in_default
-returns-in_default c = sym (not_jump c.args.opcode c.args.target (λ e. omega arith) (λ e. omega arith) (λ e. omega arith) (λ e. omega arith) (λ e. omega arith))
+returns-in_default c =
+    sym (not_jump c.args.opcode c.args.target (λ e. omega arith) (λ e. omega arith) (λ e. omega arith)
+    (λ e. omega arith) (λ e. omega arith))

@@ -5,4 +5,6 @@ use Rattle.cf_class.proofs.Loop.{with_front}
 use Rattle.cf_class.proofs.member.read_member_list.Given as goal
 
 abbrev pub invariant-loop : goal.invariant-loop
-invariant-loop l = with_front (map member_of l.members.items) (many_at member_at (l.count - l.counter) l.rest) ≡ many_at member_at l.count l.bytes
+invariant-loop l =
+    with_front (map member_of l.members.items)
+    (many_at member_at (l.count - l.counter) l.rest) ≡ many_at member_at l.count l.bytes

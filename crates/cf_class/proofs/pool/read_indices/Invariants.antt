@@ -5,4 +5,6 @@ use Rattle.cf_class.proofs.Loop.{with_front}
 use Rattle.cf_class.proofs.pool.read_indices.Given as goal
 
 abbrev pub invariant-loop : goal.invariant-loop
-invariant-loop l = with_front (map info_of l.entries.items) (infos_at l.second (l.count - l.counter) l.rest) ≡ indices_at l.count l.bytes
+invariant-loop l =
+    with_front (map info_of l.entries.items)
+    (infos_at l.second (l.count - l.counter) l.rest) ≡ indices_at l.count l.bytes

@@ -1,4 +1,4 @@
-use Rattle.cf_class.proofs.Sweep.{Swept}
+use Rattle.cf_class.proofs.SweepLemmas.{Swept}
 use Rattle.cf_class.proofs.starts.starts_of.Given as goal
 
 abbrev pub invariant-loop-pc : goal.invariant-loop-pc

@@ -1,7 +1,7 @@
 use Rattle.std.proofs.Common.{◌≡◌, [], map, take}
 use Rattle.cf_class.specs.Views.{info_of, member_of}
 use Rattle.cf_class.specs.Thin.{is_initializer}
-use Rattle.cf_class.proofs.Only.{passed}
+use Rattle.jv_list.proofs.OnlyLemmas.{passed}
 use Rattle.cf_class.proofs.thin.lacks_initializer.Given as goal
 
 abbrev pub invariant-loop-method : goal.invariant-loop-method

@@ -1,8 +1,9 @@
 use Rattle.std.proofs.Common.{map, take}
 use Rattle.cf_class.specs.Views.{info_of, attribute_of}
 use Rattle.cf_class.specs.Thin.{is_code}
-use Rattle.cf_class.proofs.Only.{Found}
+use Rattle.jv_list.proofs.OnlyLemmas.{Found}
 use Rattle.cf_class.proofs.thin.only_code.Given as goal
 
 abbrev pub invariant-loop-attribute : goal.invariant-loop-attribute
-invariant-loop-attribute l = Found (is_code (map info_of l.pool)) attribute_of l.found (take l.attribute-index l.attributes)
+invariant-loop-attribute l =
+    Found (is_code (map info_of l.pool)) attribute_of l.found (take l.attribute-index l.attributes)

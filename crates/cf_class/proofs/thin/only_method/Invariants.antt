@@ -1,8 +1,9 @@
 use Rattle.std.proofs.Common.{map, take}
 use Rattle.cf_class.specs.Views.{info_of, member_of}
 use Rattle.cf_class.specs.Thin.{is_entry}
-use Rattle.cf_class.proofs.Only.{Found}
+use Rattle.jv_list.proofs.OnlyLemmas.{Found}
 use Rattle.cf_class.proofs.thin.only_method.Given as goal
 
 abbrev pub invariant-loop-method : goal.invariant-loop-method
-invariant-loop-method l = Found (is_entry (map info_of l.pool) l.entry) member_of l.found (take l.method-index l.methods)
+invariant-loop-method l =
+    Found (is_entry (map info_of l.pool) l.entry) member_of l.found (take l.method-index l.methods)

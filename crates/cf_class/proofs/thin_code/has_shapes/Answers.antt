@@ -1,20 +1,25 @@
-use Rattle.std.proofs.Common.{◌≡◌, ◌∙◌, length, sym, subst, ℕ, arith}
+use Rattle.std.proofs.Common.{◌≡◌, ◌∙◌, length, true, refl, sym, subst, ℕ, arith}
 use Rattle.cf_class.specs.Passes.{IsSound}
-use Rattle.cf_class.proofs.Growth.{sound_entry, covers_entry, sound_all, yes_iff}
+use Rattle.cf_class.proofs.EntryLemmas.{sound_entry, covers_entry, sound_all}
+use Rattle.jv_list.proofs.TestLemmas.{true_iff}
 use Rattle.cf_class.proofs.thin_code.has_shapes.Goals as goal
 
 pub loop-pc-init : goal.loop-pc-init
 loop-pc-init c =
     let entry = c.in_ok-shapes.ensures in
     record {
-      sound = sound_entry c.args.code.now c.args.limits c.in_ok-shapes.shapes.items entry.0 c.requires.instrs c.requires.params entry.1 entry.2 entry.3;
-      covers = λ all rules. covers_entry c.args.code.now c.args.limits c.in_ok-shapes.shapes.items entry.0 all rules entry.1 entry.2 entry.3;
+      sound = sound_entry c.args.code.now c.args.limits c.in_ok-shapes.shapes.items entry.0 c.requires.instrs
+          c.requires.params entry.1 entry.2 entry.3;
+      covers = λ all rules. covers_entry c.args.code.now c.args.limits c.in_ok-shapes.shapes.items entry.0 all rules
+          entry.1 entry.2 entry.3;
     }
 
 pub returns-then-not-branch : goal.returns-then-not-branch
 returns-then-not-branch c = (
   λ no. absurd cc,
-  λ thin. let yes_said = (c.in_ok-visit.ensures.complete thin.shapes thin.rules (c.loop-pc.invariant.covers thin.shapes thin.rules)).0 in sym c.if-not-branch.true ∙ yes_said,
+  λ thin. let yes_said =
+      (c.in_ok-visit.ensures.complete thin.shapes thin.rules (c.loop-pc.invariant.covers thin.shapes thin.rules)).0 in
+      sym c.if-not-branch.true ∙ yes_said,
 )
 
 pub loop-pc-preserved : goal.loop-pc-preserved
@@ -26,4 +31,7 @@ loop-pc-preserved c = record {
 pub returns : goal.returns
 returns c =
     let end : c.loop-pc.pc ≡ length c.args.code.now = omega arith in
-    yes_iff (sound_all c.args.code.now c.args.limits c.loop-pc.shapes.items c.requires.instrs c.requires.params (subst (λ (p : ℕ). IsSound c.args.code.now c.args.limits c.loop-pc.shapes.items p) end c.loop-pc.invariant.sound))
+    true_iff true _ refl
+    (sound_all c.args.code.now c.args.limits c.loop-pc.shapes.items c.requires.instrs c.requires.params
+    (subst (λ (p : ℕ). IsSound c.args.code.now c.args.limits c.loop-pc.shapes.items p) end
+    c.loop-pc.invariant.sound))

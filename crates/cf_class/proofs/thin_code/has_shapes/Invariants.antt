@@ -3,4 +3,8 @@ use Rattle.cf_class.specs.Passes.{IsSound, Covers}
 use Rattle.cf_class.proofs.thin_code.has_shapes.Given as goal
 
 abbrev pub invariant-loop-pc : goal.invariant-loop-pc
-invariant-loop-pc l = record { sound : IsSound l.code l.limits l.shapes.items l.pc; covers : (all : Shapes) → MeetsRules l.code l.limits all → Covers l.shapes.items all }
+invariant-loop-pc l = record {
+  sound : IsSound l.code l.limits l.shapes.items l.pc;
+  covers : (all : Shapes)
+      → MeetsRules l.code l.limits all → Covers l.shapes.items all;
+}

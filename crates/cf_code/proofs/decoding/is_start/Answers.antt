@@ -12,5 +12,10 @@ returns c =
     let at = c.args.target in
     let found = c.get.ensures.lookup.4 (omega arith) false in
     let marked : c.unwrap_or.result ≡ list_any (nat_eq at) starts.pcs.items =
-    c.unwrap_or.ensures ∙ ap (λ (o : Option Bool). unwrap_or o false) c.copied.ensures ∙ found ∙ ap (λ (bs : List Bool). get_or bs c.from.result false) c.deref.ensures.value ∙ ap (λ (n : ℕ). get_or starts.marks.items n false) c.from.ensures ∙ starts.marked at in
-    (λ t. Contains-from_any eqb-true at starts.pcs.items (sym marked ∙ t), λ contained. marked ∙ list_any-from_Contains nat_eq_equiv at starts.pcs.items contained)
+    c.unwrap_or.ensures ∙ ap (λ (o : Option Bool). unwrap_or o false) c.copied.ensures ∙ found
+    ∙ ap (λ (bs : List Bool). get_or bs c.from.result false) c.deref.ensures.value
+    ∙ ap (λ (n : ℕ). get_or starts.marks.items n false) c.from.ensures ∙ starts.marked at in (
+      λ t. Contains-from_any eqb-true at starts.pcs.items (sym marked ∙ t),
+      λ contained. marked
+          ∙ list_any-from_Contains nat_eq_equiv at starts.pcs.items contained,
+    )

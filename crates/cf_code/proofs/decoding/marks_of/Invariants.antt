@@ -1,5 +1,5 @@
 use Rattle.std.proofs.Common.{◌≡◌, take, vec_len}
-use Rattle.cf_code.specs.Starts.{Marks}
+use Rattle.cf_code.specs.Steps.Starts.{Marks}
 use Rattle.cf_code.proofs.decoding.marks_of.Given as goal
 
 abbrev pub invariant-loop-pc : goal.invariant-loop-pc

@@ -1,16 +1,21 @@
-use Rattle.std.proofs.Common.{◌≡◌, ◌≤◌, ℕ, List, length, take, get_or, refl, sym, subst, ◌∙◌, arith, rules}
+use Rattle.std.proofs.Common.{◌≡◌, ◌≤◌, ◌<◌, ℕ, List, length, take, get_or, refl, sym, subst, ◌∙◌, arith, rules}
 use Rattle.std.proofs.lemmas.List.{get_or_default}
 use Rattle.cf_code.specs.declared.code.Placed.{Placed}
 use Rattle.cf_code.specs.Decoding.{HasStarts, IsGood, IsCode, HasBadOpcode, HasBadTarget}
-use Rattle.cf_code.proofs.Decodings.{Places, start_inside, places_step, places_all, only_there, good_there, code_whole, bad_opcode, bad_target}
+use Rattle.cf_code.proofs.PlaceLemmas.{Places, places_step, places_all, only_there, good_there, code_whole, bad_opcode}
+use Rattle.cf_code.proofs.PlaceLemmas.{bad_target}
+use Rattle.cf_code.proofs.StartLemmas.{start_inside}
 use Rattle.cf_code.proofs.decoding.read_code.Goals as goal
 
 -- the starts of a loop that goes over them
-same_starts : (bytes starts same : List ℕ) (stop : ℕ) → same ≡ starts → HasStarts bytes starts stop → HasStarts bytes same stop
-same_starts bytes starts same stop e has = subst (λ (ss : List ℕ). HasStarts bytes ss stop) (sym e) has
+same_starts : (bytes starts between same : List ℕ) (stop : ℕ) → same ≡ between → between ≡ starts
+    → HasStarts bytes starts stop → HasStarts bytes same stop
+same_starts bytes starts between same stop d e has =
+    subst (λ (ss : List ℕ). HasStarts bytes ss stop) (sym (d ∙ e)) has
 
 pub marks_of-requires : goal.marks_of-requires
-marks_of-requires c k d l = start_inside c.args.bytes.now c.in_ok-pcs.pcs.items c.in_ok-pcs.stop k d c.in_ok-pcs.ensures l
+marks_of-requires c k d l =
+    start_inside c.args.bytes.now c.in_ok-pcs.pcs.items c.in_ok-pcs.stop k d c.in_ok-pcs.ensures l
 
 pub loop-pc-init : goal.loop-pc-init
 loop-pc-init c =
@@ -22,55 +27,68 @@ pub slice_bounds-rest-count : goal.slice_bounds-rest-count
 slice_bounds-rest-count c =
     let xs = c.deref-pc-items.result.now in
     let bytes = c.args.bytes.now in
-    let has = same_starts bytes c.in_ok-pcs.pcs.items xs c.in_ok-pcs.stop (c.deref-pc-items.ensures.value ∙ c.in_ok-starts.ensures) c.in_ok-pcs.ensures in
-    omega (arith, start_inside bytes xs c.in_ok-pcs.stop c.loop-pc.pc-index 0 has c.loop-pc-test.true, c.from.ensures)
+    let stop = c.in_ok-pcs.stop in
+    let has = same_starts bytes _ _ xs stop c.deref-pc-items.ensures.value c.in_ok-starts.ensures c.in_ok-pcs.ensures in
+    omega (arith, start_inside bytes xs stop c.loop-pc.pc-index 0 has c.loop-pc-test.true, c.from.ensures)
 
 pub slice_bounds-rest-start : goal.slice_bounds-rest-start
 slice_bounds-rest-start c =
     let xs = c.deref-pc-items.result.now in
     let bytes = c.args.bytes.now in
-    let has = same_starts bytes c.in_ok-pcs.pcs.items xs c.in_ok-pcs.stop (c.deref-pc-items.ensures.value ∙ c.in_ok-starts.ensures) c.in_ok-pcs.ensures in
-    let inside : c.from.result ≤ length bytes = omega (arith, start_inside bytes xs c.in_ok-pcs.stop c.loop-pc.pc-index 0 has c.loop-pc-test.true, c.from.ensures) in
+    let stop = c.in_ok-pcs.stop in
+    let has = same_starts bytes _ _ xs stop c.deref-pc-items.ensures.value c.in_ok-starts.ensures c.in_ok-pcs.ensures in
+    let there = start_inside bytes xs stop c.loop-pc.pc-index 0 has c.loop-pc-test.true in
+    let inside : c.from.result ≤ length bytes = omega (arith, there, c.from.ensures) in
     search (rules, arith)
 
-pub returns-in_default-clause-target : goal.returns-in_default-clause-target
-returns-in_default-clause-target c pc e =
+pub returns-in_default-clause-bad_target : goal.returns-in_default-clause-bad_target
+returns-in_default-clause-bad_target c pc e =
     let xs = c.deref-pc-items.result.now in
     let bytes = c.args.bytes.now in
     let k = c.loop-pc.pc-index in
     let at = get_or xs k 0 in
     let stop = c.in_ok-pcs.stop in
-    let has = same_starts bytes c.in_ok-pcs.pcs.items xs stop (c.deref-pc-items.ensures.value ∙ c.in_ok-starts.ensures) c.in_ok-pcs.ensures in
+    let starts = c.in_ok-starts.starts.pcs.items in
+    let has = same_starts bytes _ _ xs stop c.deref-pc-items.ensures.value c.in_ok-starts.ensures c.in_ok-pcs.ensures in
     let bad : IsGood bytes xs at → ⊥ = λ good.
-    let read = good_there bytes xs c.in_ok-starts.starts.pcs.items at c.from.result c.from.ensures (sym c.deref-pc-items.ensures.value) good in
+    let read = good_there bytes xs starts at c.from.result c.from.ensures (sym c.deref-pc-items.ensures.value) good in
     c.in_default.not-Some read.1 (c.in_ok-instr.ensures.only read.0 read.1 read.2 read.3 read.4) in
     let same : at ≡ pc = cc in
-    subst (λ (n : ℕ). HasBadTarget bytes n) same (bad_target bytes xs stop k at c.loop-pc.code.items has c.loop-pc-test.true (get_or_default xs k 0 at c.loop-pc-test.true) c.loop-pc.invariant bad)
+    let is = get_or_default xs k 0 at c.loop-pc-test.true in
+    let here = bad_target bytes xs stop c.loop-pc.code.items has k at c.loop-pc-test.true is c.loop-pc.invariant bad in
+    subst (λ (n : ℕ). HasBadTarget bytes n) same here
 
 pub loop-pc-preserved : goal.loop-pc-preserved
 loop-pc-preserved c =
     let xs = c.deref-pc-items.result.now in
     let bytes = c.args.bytes.now in
     let at = get_or xs c.loop-pc.pc-index 0 in
+    let starts = c.in_ok-starts.starts.pcs.items in
     let found = rw c.in-Some.is at c.in_ok-instr.ensures.found in
-    let only = only_there bytes xs c.in_ok-starts.starts.pcs.items at c.from.result c.in-Some.instr c.from.ensures (sym c.deref-pc-items.ensures.value) found in
-    places_step bytes xs c.loop-pc.pc-index c.loop-pc.code.items c.push.new.self.items (record { pc = at; instr = c.in-Some.instr }) c.loop-pc-test.true c.loop-pc.invariant refl only c.in_ok-push.ensures.items
+    let same = sym c.deref-pc-items.ensures.value in
+    let only = only_there bytes xs starts at c.from.result c.in-Some.instr c.from.ensures same found in
+    places_step bytes xs c.loop-pc.pc-index c.loop-pc.code.items c.push.new.self.items
+    (record { pc = at; instr = c.in-Some.instr }) c.loop-pc-test.true c.loop-pc.invariant refl only
+    c.in_ok-push.ensures.items
 
-pub returns-then-from-bytes-clause-opcode : goal.returns-then-from-bytes-clause-opcode
-returns-then-from-bytes-clause-opcode c pc e =
+pub returns-then-from-bytes-clause-bad_opcode : goal.returns-then-from-bytes-clause-bad_opcode
+returns-then-from-bytes-clause-bad_opcode c pc e =
     let xs = c.deref-pc-items.result.now in
     let bytes = c.args.bytes.now in
     let stop = c.in_ok-pcs.stop in
-    let has = same_starts bytes c.in_ok-pcs.pcs.items xs stop (c.deref-pc-items.ensures.value ∙ c.in_ok-starts.ensures) c.in_ok-pcs.ensures in
+    let has = same_starts bytes _ _ xs stop c.deref-pc-items.ensures.value c.in_ok-starts.ensures c.in_ok-pcs.ensures in
     let all = places_all bytes xs c.loop-pc.pc-index c.loop-pc.code.items c.loop-pc-test.false c.loop-pc.invariant in
+    let inside : stop < length bytes = omega (arith, c.from-2.ensures, c.if-from-bytes.true) in
     let same : stop ≡ pc = cc in
-    subst (λ (n : ℕ). HasBadOpcode bytes n) same (bad_opcode bytes xs stop c.loop-pc.code.items has (omega (arith, c.from-2.ensures, c.if-from-bytes.true)) all)
+    subst (λ (n : ℕ). HasBadOpcode bytes n) same (bad_opcode bytes xs stop c.loop-pc.code.items has inside all)
 
 pub returns-clause-found : goal.returns-clause-found
 returns-clause-found c =
     let xs = c.deref-pc-items.result.now in
     let bytes = c.args.bytes.now in
     let stop = c.in_ok-pcs.stop in
-    let has = same_starts bytes c.in_ok-pcs.pcs.items xs stop (c.deref-pc-items.ensures.value ∙ c.in_ok-starts.ensures) c.in_ok-pcs.ensures in
+    let has = same_starts bytes _ _ xs stop c.deref-pc-items.ensures.value c.in_ok-starts.ensures c.in_ok-pcs.ensures in
     let all = places_all bytes xs c.loop-pc.pc-index c.loop-pc.code.items c.loop-pc-test.false c.loop-pc.invariant in
-    subst (λ (ps : List Placed). IsCode bytes ps) (sym c.from_vec.ensures) (code_whole bytes xs stop c.loop-pc.code.items has (omega (arith, c.from-2.ensures, c.if-from-bytes.false)) all)
+    let past : length bytes ≤ stop = omega (arith, c.from-2.ensures, c.if-from-bytes.false) in
+    let whole = code_whole bytes xs stop c.loop-pc.code.items has past all in
+    subst (λ (ps : List Placed). IsCode bytes ps) (sym c.from_vec.ensures) whole

@@ -1,5 +1,5 @@
 use Rattle.std.proofs.Common.{take}
-use Rattle.cf_code.proofs.Decodings.{Places}
+use Rattle.cf_code.proofs.PlaceLemmas.{Places}
 use Rattle.cf_code.proofs.decoding.read_code.Given as goal
 
 abbrev pub invariant-loop-pc : goal.invariant-loop-pc

@@ -1,21 +1,31 @@
-use Rattle.std.proofs.Common.{◌≡◌, ℕ, List, [], subst, sym, ◌∙◌, eqb-true}
+use Rattle.std.proofs.Common.{◌≡◌, ◌<◌, ℕ, [], length, ap, sym, ◌∙◌, eqb-true, arith}
 use Rattle.std.proofs.lemmas.Bool.{eqb-false}
+use Rattle.jv_list.proofs.FrontLemmas.{front_stuck}
 use Rattle.cf_code.specs.declared.switch.Case.{Case}
 use Rattle.cf_code.specs.Switches.{pair, FitsCase}
-use Rattle.cf_code.proofs.Fronts.{Front, front_more, front_end, front_stuck, no_length, none_length}
+use Rattle.cf_code.proofs.ReadLemmas.{read_more, read_end}
 use Rattle.cf_code.proofs.switch.read_pairs.Goals as goal
+
+filled : (pc : ℕ) (t : Case) → FitsCase t → 0 < length (pair pc t)
+filled pc t fits = omega arith
 
 pub loop-case-preserved : goal.loop-case-preserved
 loop-case-preserved c =
     let found = c.in-Some.ensures.found in
-    subst (λ (ts : List Case). Front (pair c.args.pc) FitsCase c.args.bytes.now ts c.in-Some.after.now) (sym c.in_ok-push.ensures.items) (front_more (pair c.args.pc) FitsCase c.args.bytes.now c.loop-case.cases.items c.in-Some.case c.loop-case.rest.now c.in-Some.after.now c.loop-case.invariant found.0 (λ e. let both = sym found.0 ∙ e in cc) found.1 c.in-Some.ensures.only)
+    read_more (pair c.args.pc) FitsCase (filled c.args.pc) c.args.bytes.now c.loop-case.cases.items _ c.in-Some.case
+    c.loop-case.rest.now c.in-Some.after.now c.loop-case.invariant found.0 found.1 c.in-Some.ensures.only
+    c.in_ok-push.ensures.items
 
 pub returns-then-is_empty-clause-only : goal.returns-then-is_empty-clause-only
 returns-then-is_empty-clause-only c ts all is =
-    let nothing : c.loop-case.rest.now ≡ [] = no_length c.loop-case.rest.now (eqb-true _ _ (sym c.is_empty.ensures ∙ c.if-is_empty.true)) in
-    let same = front_end (pair c.args.pc) FitsCase c.args.bytes.now c.loop-case.cases.items (subst (λ (r : List ℕ). Front (pair c.args.pc) FitsCase c.args.bytes.now c.loop-case.cases.items r) nothing c.loop-case.invariant) (λ y tail e. cc) ts all is in
-    let given = c.from_vec.ensures ∙ same in cc
+    let empty = eqb-true _ _ (sym c.is_empty.ensures ∙ c.if-is_empty.true) in
+    let given = c.from_vec.ensures ∙ read_end (pair c.args.pc) FitsCase (filled c.args.pc) c.args.bytes.now
+    c.loop-case.cases.items c.loop-case.rest.now c.loop-case.invariant empty ts all is in
+    cc
 
 pub returns-else-is_empty-clause-only : goal.returns-else-is_empty-clause-only
 returns-else-is_empty-clause-only c ts all is =
-    absurd (front_stuck (pair c.args.pc) FitsCase c.args.bytes.now c.loop-case.cases.items c.loop-case.rest.now c.loop-case.invariant (λ e. eqb-false _ _ (sym c.is_empty.ensures ∙ c.if-is_empty.false) (none_length c.loop-case.rest.now e)) c.in_default.ensures.only ts all is)
+    let some : c.loop-case.rest.now ≡ [] → ⊥ = λ e.
+    eqb-false _ _ (sym c.is_empty.ensures ∙ c.if-is_empty.false) (ap length e) in
+    absurd (front_stuck (pair c.args.pc) FitsCase c.args.bytes.now c.loop-case.cases.items c.loop-case.rest.now
+    c.loop-case.invariant some c.in_default.ensures.only ts all is)

@@ -1,6 +1,6 @@
 use Rattle.std.proofs.Common.{length}
 use Rattle.cf_code.specs.Switches.{pair, FitsCase}
-use Rattle.cf_code.proofs.Fronts.{Front}
+use Rattle.jv_list.proofs.FrontLemmas.{Front}
 use Rattle.cf_code.proofs.switch.read_pairs.Given as goal
 
 abbrev pub invariant-loop-case : goal.invariant-loop-case

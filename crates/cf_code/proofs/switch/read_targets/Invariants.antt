@@ -1,7 +1,7 @@
 use Rattle.std.proofs.Common.{length}
 use Rattle.cf_code.specs.Bytes.{IsTwo}
 use Rattle.cf_code.specs.Switches.{far}
-use Rattle.cf_code.proofs.Fronts.{Front}
+use Rattle.jv_list.proofs.FrontLemmas.{Front}
 use Rattle.cf_code.proofs.switch.read_targets.Given as goal
 
 abbrev pub invariant-loop-target : goal.invariant-loop-target

@@ -1,7 +1,7 @@
 -- The pool of a file, or the first fault of one.
-use Rattle.cf_pool.proofs.NumberTexts.{FitBytes-from_all}
-use Rattle.cf_pool.proofs.PoolOne.{pair_same, pool_same, pool_not_fault, fault_once}
-use Rattle.cf_pool.proofs.PoolDecided.{pool_decided}
+use Rattle.cf_pool.proofs.NumberLemmas.{FitBytes-from_all}
+use Rattle.cf_pool.proofs.PoolLemmas.{pair_same, pool_same, pool_not_fault, fault_once}
+use Rattle.cf_pool.proofs.PoolDecisionLemmas.{pool_decided}
 use Rattle.cf_pool.proofs.laws.one_pool.Goals as goal
 
 pub returns : goal.returns

@@ -1,7 +1,7 @@
 -- The units of a text, or its first unit at fault.
 use Rattle.std.proofs.Common.{length, arith}
-use Rattle.cf_pool.proofs.UnitLists.{units_same, units_not_bad, bad_same}
-use Rattle.cf_pool.proofs.UnitsDecided.{units_decided}
+use Rattle.cf_pool.proofs.UnitListLemmas.{units_same, units_not_bad, bad_same}
+use Rattle.cf_pool.proofs.UnitDecisionLemmas.{units_decided}
 use Rattle.cf_pool.proofs.laws.one_text.Goals as goal
 
 pub returns : goal.returns

@@ -1,6 +1,6 @@
 -- What was read stands at its indices, which are no more than there are.
 use Rattle.std.proofs.Common.{◌-◌, ◌≤◌, length}
-use Rattle.cf_pool.proofs.Reading.{ReadSoFar}
+use Rattle.cf_pool.proofs.ReadingLemmas.{ReadSoFar}
 use Rattle.cf_pool.proofs.reader.read_entries.Given as goal
 
 abbrev pub invariant-entries : goal.invariant-entries

@@ -1,6 +1,6 @@
 -- The locals so far are merged.
 use Rattle.std.proofs.Common.{length}
-use Rattle.jb_run.proofs.Merging.{LocalsSoFar}
+use Rattle.jb_run.proofs.MergedLocalsLemmas.{LocalsSoFar}
 use Rattle.jb_run.proofs.frame.merge_locals.Given as goal
 
 abbrev pub invariant-pair : goal.invariant-pair

@@ -1,6 +1,6 @@
 -- The operands so far are merged.
 use Rattle.std.proofs.Common.{length}
-use Rattle.jb_run.proofs.Merging.{StacksSoFar}
+use Rattle.jb_run.proofs.MergedStacksLemmas.{StacksSoFar}
 use Rattle.jb_run.proofs.frame.merge_stacks.Given as goal
 
 abbrev pub invariant-pair : goal.invariant-pair

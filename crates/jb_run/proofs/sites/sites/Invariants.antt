@@ -1,4 +1,5 @@
--- The goals so far are those of the instructions so far, and an instruction begins at the place, or the code ends there.
+-- The goals so far are those of the instructions so far, and an instruction begins at the place, or the code ends
+-- there.
 use Rattle.std.proofs.Common.{◌-◌, length}
 use Rattle.jb_run.proofs.SitesSoFar.{SoFar}
 use Rattle.jb_run.proofs.sites.sites.Given as goal

@@ -1,5 +1,5 @@
 use Rattle.jb_run.specs.OutputText.{missing_text}
-use Rattle.jb_run.proofs.Pieces.{three_pieces}
+use Rattle.jv_list.proofs.PieceLemmas.{three_pieces}
 use Rattle.jb_run.proofs.text.push_missing.Goals as goal
 
 pub returns : goal.returns

@@ -5,4 +5,5 @@ use Rattle.jb_run.specs.OutputText.{refusal_text}
 use Rattle.jb_run.proofs.text.push_refusals.Given as goal
 
 abbrev pub invariant-loop-asked : goal.invariant-loop-asked
-invariant-loop-asked l = string_bytes l.out ≡ string_bytes l.fn.out ++ flat_map refusal_text (take l.asked-index l.entries)
+invariant-loop-asked l = string_bytes l.out ≡ string_bytes l.fn.out ++ flat_map refusal_text
+    (take l.asked-index l.entries)

@@ -14,11 +14,13 @@ bits-preserved c =
     let word = c.args.word.now in
     elim c.if-bit_value.branch [
       | then-bit_value w ↦
-          subst (λ z. PatternSoFar a word z (c.bits.i + 1)) (sym (w.pattern-is ∙ ap (bit_or c.bits.pattern) (one_shl c.bits.i 32 c.bits-test.true)))
+          subst (λ z. PatternSoFar a word z (c.bits.i + 1))
+          (sym (w.pattern-is ∙ ap (bit_or c.bits.pattern) (one_shl c.bits.i 32 c.bits-test.true)))
           (pattern_set a word c.bits.pattern c.bits.i c.bits.invariant (sym c.bit_value.ensures ∙ w.if-bit_value.true))
       | else-bit_value w ↦
           subst (λ z. PatternSoFar a word z (c.bits.i + 1)) (sym w.pattern-is)
-          (pattern_kept a word c.bits.pattern c.bits.i c.bits.invariant (sym c.bit_value.ensures ∙ w.if-bit_value.false))
+          (pattern_kept a word c.bits.pattern c.bits.i c.bits.invariant (sym c.bit_value.ensures
+          ∙ w.if-bit_value.false))
     ]
 
 pub returns : goal.returns
@@ -27,4 +29,5 @@ returns c =
     let word = c.args.word.now in
     let below : c.bits.pattern < 2 ^ 32 = omega (arith, c.bits.auto.pattern-fits) in
     let shows = pattern_shows a word c.bits.pattern c.bits.i c.bits.invariant c.bits-test.false below in
-    subst (ShowsInt a word) (sym (to_z-of_z w32 c.cast_signed.result (record { sfits = c.cast_signed.type_inv }) ∙ c.cast_signed.ensures)) shows
+    subst (ShowsInt a word) (sym (to_z-of_z w32 c.cast_signed.result (record { sfits = c.cast_signed.type_inv })
+    ∙ c.cast_signed.ensures)) shows

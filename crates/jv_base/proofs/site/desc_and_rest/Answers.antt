@@ -1,41 +1,26 @@
 -- A descriptor is before the `@`, and a place behind it.
-use Rattle.std.proofs.Common.{◌+◌, length, arith}
+use Rattle.std.proofs.Common.{arith}
 use Rattle.std.proofs.lemmas.Result.{err_from_is_err_and}
-use Rattle.jv_base.specs.declared.form.Form.TheVariants.{MethodDescriptor}
-use Rattle.jv_base.specs.Forms.{IsSpelled}
-use Rattle.jv_base.specs.SiteParts.{PlaceText}
-use Rattle.jv_base.proofs.Joining.{alone_not, alone_front, first_not, first_front, second_not, second_front}
-use Rattle.jv_base.proofs.SiteTexts.{desc_free, place_text, some_place}
+use Rattle.jv_base.proofs.SiteLemmas.{desc_parting}
+use Rattle.jv_base.proofs.JoinedLemmas.{alone, in_first, in_second}
 use Rattle.jv_base.proofs.site.desc_and_rest.Goals as goal
 
-pub returns-in_default-clause-bad : goal.returns-in_default-clause-bad
-returns-in_default-clause-bad c = λ at e. alone_not 64 (IsSpelled MethodDescriptor) PlaceText desc_free place_text some_place c.args.text.now c.in_default.ensures.none
+pub returns-in_default-clause-fault : goal.returns-in_default-clause-fault
+returns-in_default-clause-fault c =
+    λ at e. alone desc_parting c.args.text.now c.args.place at c.spelled_front.result c.in_default.ensures.none (cc)
+    c.spelled_front.ensures.longest
 
-pub returns-in_default-clause-place : goal.returns-in_default-clause-place
-returns-in_default-clause-place c = λ at e. (c.spelled_front.result, cc, alone_front 64 (IsSpelled MethodDescriptor) PlaceText desc_free place_text some_place c.args.text.now c.spelled_front.result c.in_default.ensures.none c.spelled_front.ensures.longest)
-
-pub returns-in_err-desc-clause-bad : goal.returns-in_err-desc-clause-bad
-returns-in_err-desc-clause-bad c =
+pub returns-in_err-desc-clause-fault : goal.returns-in_err-desc-clause-fault
+returns-in_err-desc-clause-fault c =
     λ at e.
     let p = err_from_is_err_and c.from_residual.result c.from_residual.ensures.1 in
-    first_not 64 (IsSpelled MethodDescriptor) PlaceText desc_free place_text some_place c.args.text.now c.in-Some.desc_text.now c.in-Some.rest.now c.in-Some.ensures.parts c.in-Some.ensures.first (c.in_err-desc.ensures.bad at (cc))
+    in_first desc_parting c.args.text.now c.in-Some.desc_text.now c.in-Some.rest.now c.in-Some.ensures.parts
+    c.in-Some.ensures.first c.args.place at (c.in_err-desc.ensures.fault at (cc))
 
-pub returns-in_err-desc-clause-place : goal.returns-in_err-desc-clause-place
-returns-in_err-desc-clause-place c =
-    λ at e.
-    let p = err_from_is_err_and c.from_residual.result c.from_residual.ensures.1 in
-    let front = c.in_err-desc.ensures.place at (cc) in
-    (front.0, front.1, first_front 64 (IsSpelled MethodDescriptor) PlaceText desc_free place_text some_place c.args.text.now c.in-Some.desc_text.now c.in-Some.rest.now front.0 c.in-Some.ensures.parts c.in-Some.ensures.first (c.in_err-desc.ensures.bad at (cc)) front.2)
-
-pub returns-in_err-pc-clause-bad : goal.returns-in_err-pc-clause-bad
-returns-in_err-pc-clause-bad c =
+pub returns-in_err-pc-clause-fault : goal.returns-in_err-pc-clause-fault
+returns-in_err-pc-clause-fault c =
     λ at e.
     let p = err_from_is_err_and c.from_residual-in_err-pc.result c.from_residual-in_err-pc.ensures.1 in
-    second_not 64 (IsSpelled MethodDescriptor) PlaceText desc_free place_text some_place c.args.text.now c.in-Some.desc_text.now c.in-Some.rest.now c.in-Some.ensures.parts (c.in_ok-desc.desc, c.in_ok-desc.ensures.found.0, c.in_ok-desc.ensures.found.1, c.in_ok-desc.ensures.found.2) (c.in_err-pc.ensures.bad at (cc))
-
-pub returns-in_err-pc-clause-place : goal.returns-in_err-pc-clause-place
-returns-in_err-pc-clause-place c =
-    λ at e.
-    let p = err_from_is_err_and c.from_residual-in_err-pc.result c.from_residual-in_err-pc.ensures.1 in
-    let front = c.in_err-pc.ensures.place at (cc) in
-    (length c.in-Some.desc_text.now + 1 + front.0, omega (arith, front.1), second_front 64 (IsSpelled MethodDescriptor) PlaceText desc_free place_text some_place c.args.text.now c.in-Some.desc_text.now c.in-Some.rest.now front.0 c.in-Some.ensures.parts (c.in_ok-desc.desc, c.in_ok-desc.ensures.found.0, c.in_ok-desc.ensures.found.1, c.in_ok-desc.ensures.found.2) front.2)
+    let found = c.in_ok-desc.ensures.found in
+    in_second desc_parting c.args.text.now c.in-Some.desc_text.now c.in-Some.rest.now c.in-Some.ensures.parts
+    (c.in_ok-desc.desc, found.0, found.1, found.2) c.args.place _ at (omega arith) (c.in_err-pc.ensures.fault at (cc))

@@ -1,5 +1,5 @@
 -- The digits so far are those of the value.
-use Rattle.jv_base.proofs.SiteTexts.{IsReadTo}
+use Rattle.jv_base.proofs.PcLemmas.{IsReadTo}
 use Rattle.jv_base.proofs.site.leading_pc.Given as goal
 
 abbrev pub invariant-loop-count : goal.invariant-loop-count

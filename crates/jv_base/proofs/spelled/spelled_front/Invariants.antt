@@ -1,6 +1,6 @@
 -- The characters so far lead to the progress, and what is left gets shorter.
 use Rattle.std.proofs.Common.{length}
-use Rattle.jv_base.proofs.SpelledFronts.{HasRead}
+use Rattle.jv_base.proofs.SpelledFrontLemmas.{HasRead}
 use Rattle.jv_base.proofs.spelled.spelled_front.Given as goal
 
 abbrev pub invariant-loop-next : goal.invariant-loop-next

@@ -11,6 +11,8 @@ use Rattle.jv_base.proofs.spelling.push_name_text.Goals as goal
 pub returns : goal.returns
 unfolding name_text
 returns c =
-    let end = YieldsList-end (YieldsList-from_chars c.as_str.result.now c.as_str.utf8 cc) c.loop-c.yielded _ c.loop-c.yielded_by _ _ c.in-None.is c.next.ensures.steps in
-    let all : c.loop-c.yielded ≡ chars c.args.name.now = sym (map-id c.loop-c.yielded) ∙ end.0 ∙ ap chars c.as_str.ensures in
-    c.loop-c.invariant ∙ ap (λ (cs : List ℕ). string_bytes c.args.out.now ++ flat_map character_text cs) all
+    let l = c.loop-c in
+    let items = YieldsList-from_chars c.as_str.result.now c.as_str.utf8 cc in
+    let end = YieldsList-end items l.yielded _ l.yielded_by _ _ c.in-None.is c.next.ensures.steps in
+    let all : l.yielded ≡ chars c.args.name.now = sym (map-id l.yielded) ∙ end.0 ∙ ap chars c.as_str.ensures in
+    l.invariant ∙ ap (λ (cs : List ℕ). string_bytes c.args.out.now ++ flat_map character_text cs) all

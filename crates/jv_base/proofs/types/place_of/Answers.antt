@@ -6,10 +6,12 @@ use Rattle.std.proofs.lemmas.Iterator.{YieldsList-from_chars}
 use Rattle.std.proofs.lemmas.Iterator.Consumers.{YieldsList-so_far, YieldsList-turn, YieldsList-end}
 use Rattle.std.proofs.lemmas.List.{map-id, length_push}
 use Rattle.std.proofs.lemmas.Str.{encodes-chars}
-use Rattle.jv_base.specs.Forms.{IsTextOf, start_of, run, step}
+use Rattle.jv_base.specs.Forms.{IsTextOf}
 use Rattle.jv_base.specs.Front.{StopsAt}
-use Rattle.jv_base.proofs.TypeTexts.{run_start, run_more, next_char, next_scalar, stops_before, stops_at_end}
+use Rattle.jv_base.specs.Calls.Progress.{run, start_of, step}
+use Rattle.jv_base.proofs.PlaceLemmas.{run_start, run_on, leaves_before, leaves_at_end}
 use Rattle.jv_base.proofs.types.place_of.Goals as goal
+use Rattle.jv_list.proofs.TextLemmas.{next_char, next_scalar}
 
 pub loop-c-init : goal.loop-c-init
 loop-c-init c = record {
@@ -19,31 +21,38 @@ loop-c-init c = record {
 
 pub returns-in_default : goal.returns-in_default
 returns-in_default c =
+    let l = c.loop-c in
     let items = YieldsList-from_chars c.args.text.now c.utf8.text cc in
-    let front = YieldsList-so_far items c.loop-c.yielded _ c.loop-c.yielded_by in
-    let turn = YieldsList-turn items c.loop-c.yielded _ c.loop-c.yielded_by _ _ c.in-Some.c c.in-Some.is c.next.ensures.steps in
-    let split = next_char c.args.text.now c.loop-c.yielded c.in-Some.c front turn in
-    let refused : step c.loop-c.progress c.in-Some.c ≡ None = sym c.step.ensures ∙ c.in_default.is in
-    subst (λ (n : ℕ). StopsAt (IsTextOf c.args.form) c.args.text.now n) (sym c.loop-c.invariant.count)
-    (stops_before c.args.form c.args.text.now c.loop-c.yielded split.0 c.in-Some.c c.loop-c.progress c.utf8.text split.1 c.loop-c.invariant.leads refused)
+    let front = YieldsList-so_far items l.yielded _ l.yielded_by in
+    let turn = YieldsList-turn items l.yielded _ l.yielded_by _ _ c.in-Some.c c.in-Some.is c.next.ensures.steps in
+    let split = next_char c.args.text.now l.yielded c.in-Some.c front turn in
+    let refused : step l.progress c.in-Some.c ≡ None = sym c.step.ensures ∙ c.in_default.is in
+    subst (λ (n : ℕ). StopsAt (IsTextOf c.args.form) c.args.text.now n) (sym l.invariant.count)
+    (leaves_before c.args.form c.args.text.now l.yielded split.0 c.in-Some.c l.progress c.utf8.text split.1
+    l.invariant.leads refused)
 
 pub loop-c-preserved : goal.loop-c-preserved
 loop-c-preserved c =
+    let l = c.loop-c in
     let items = YieldsList-from_chars c.args.text.now c.utf8.text cc in
-    let front = YieldsList-so_far items c.loop-c.yielded _ c.loop-c.yielded_by in
-    let turn = YieldsList-turn items c.loop-c.yielded _ c.loop-c.yielded_by _ _ c.in-Some.c c.in-Some.is c.next.ensures.steps in
-    let split = next_char c.args.text.now c.loop-c.yielded c.in-Some.c front turn in
-    let scalar = next_scalar c.args.text.now c.loop-c.yielded split.0 c.in-Some.c c.utf8.text split.1 in
+    let front = YieldsList-so_far items l.yielded _ l.yielded_by in
+    let turn = YieldsList-turn items l.yielded _ l.yielded_by _ _ c.in-Some.c c.in-Some.is c.next.ensures.steps in
+    let split = next_char c.args.text.now l.yielded c.in-Some.c front turn in
+    let scalar = next_scalar c.args.text.now l.yielded split.0 c.in-Some.c c.utf8.text split.1 in
+    let on = sym c.step.ensures ∙ c.in-Some-step.is in
     record {
-      count = omega (arith, length_push c.loop-c.yielded c.in-Some.c, c.loop-c.invariant.count);
-      leads = run_more c.args.form c.loop-c.yielded c.in-Some.c c.loop-c.progress c.in-Some-step.next scalar.1 c.loop-c.invariant.leads (sym c.step.ensures ∙ c.in-Some-step.is);
+      count = omega (arith, length_push l.yielded c.in-Some.c, l.invariant.count);
+      leads = run_on c.args.form l.yielded c.in-Some.c l.progress c.in-Some-step.next scalar.1 l.invariant.leads on;
     }
 
 pub returns : goal.returns
 returns c =
+    let l = c.loop-c in
     let text : List ℕ = c.args.text.now in
-    let end = YieldsList-end (YieldsList-from_chars text c.utf8.text cc) c.loop-c.yielded _ c.loop-c.yielded_by _ _ c.in-None.is c.next.ensures.steps in
-    let all : c.loop-c.yielded ≡ chars text = sym (map-id c.loop-c.yielded) ∙ end.0 in
-    let bytes : encode_utf8_all c.loop-c.yielded ≡ text = ap encode_utf8_all all ∙ encodes-chars text c.utf8.text in
-    subst (λ (n : ℕ). StopsAt (IsTextOf c.args.form) text n) (ap length (sym all) ∙ sym c.loop-c.invariant.count)
-    (stops_at_end c.args.form text c.loop-c.progress c.utf8.text (ap (λ (t : List ℕ). run (start_of c.args.form) t) (sym bytes) ∙ c.loop-c.invariant.leads))
+    let items = YieldsList-from_chars text c.utf8.text cc in
+    let end = YieldsList-end items l.yielded _ l.yielded_by _ _ c.in-None.is c.next.ensures.steps in
+    let all : l.yielded ≡ chars text = sym (map-id l.yielded) ∙ end.0 in
+    let bytes : encode_utf8_all l.yielded ≡ text = ap encode_utf8_all all ∙ encodes-chars text c.utf8.text in
+    let led = ap (λ (t : List ℕ). run (start_of c.args.form) t) (sym bytes) ∙ l.invariant.leads in
+    subst (λ (n : ℕ). StopsAt (IsTextOf c.args.form) text n) (ap length (sym all) ∙ sym l.invariant.count)
+    (leaves_at_end c.args.form text l.progress c.utf8.text led)

@@ -1,7 +1,7 @@
 -- The characters so far lead to the progress.
 use Rattle.std.proofs.Common.{◌≡◌, length, Some}
 use Rattle.std.specs.Prelude.{encode_utf8_all}
-use Rattle.jv_base.specs.Forms.{run, start_of}
+use Rattle.jv_base.specs.Calls.Progress.{run, start_of}
 use Rattle.jv_base.proofs.types.place_of.Given as goal
 
 abbrev pub invariant-loop-c : goal.invariant-loop-c

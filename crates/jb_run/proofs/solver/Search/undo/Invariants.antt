@@ -5,7 +5,8 @@ use Rattle.jb_run.proofs.solver.Search.undo.Given as goal
 
 abbrev pub invariant-loop-self : goal.invariant-loop-self
 invariant-loop-self l = record {
-  values : cleared (drop l.length l.self.trail.items) l.self.values.items ≡ cleared (drop l.length l.fn.self.trail.items) l.fn.self.values.items;
+  values : cleared (drop l.length l.self.trail.items) l.self.values.items ≡ cleared
+      (drop l.length l.fn.self.trail.items) l.fn.self.values.items;
   trail : take l.length l.self.trail.items ≡ take l.length l.fn.self.trail.items;
 }
 

@@ -1,0 +1,12 @@
+// Laws of the definitions, each the contract of a function that does nothing.
+ghost use Rattle.cf_class.specs.Laws.{GoForward, WeakerOrder};
+
+/// An instruction of thin code ends and jumps behind its own pc, and ends within the code.
+pub fn go_forward()
+    ensures { GoForward }
+{}
+
+/// To stand where a shape is expected is an order of the shapes.
+pub fn weaker_order()
+    ensures { WeakerOrder }
+{}

@@ -1,0 +1,6 @@
+-- The bits so far are fresh.
+use Rattle.jb_run.proofs.IntBitsInputs.{FreshSoFar}
+use Rattle.jb_run.proofs.int_bits.unknown.Given as goal
+
+abbrev pub invariant-loop-i : goal.invariant-loop-i
+invariant-loop-i l = FreshSoFar l.fn.formula l.formula l.bits l.i

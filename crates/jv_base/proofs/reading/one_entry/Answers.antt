@@ -1,6 +1,0 @@
--- The parts are told by their texts.
-use Rattle.jv_base.proofs.Entries.{entry_same}
-use Rattle.jv_base.proofs.reading.one_entry.Goals as goal
-
-pub returns : goal.returns
-returns c = entry_same

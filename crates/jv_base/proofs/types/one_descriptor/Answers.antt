@@ -1,6 +1,0 @@
--- The types are told by their texts.
-use Rattle.jv_base.proofs.OneDescriptor.{descriptor_same}
-use Rattle.jv_base.proofs.types.one_descriptor.Goals as goal
-
-pub returns : goal.returns
-returns c = descriptor_same

@@ -1,0 +1,28 @@
+// Laws of the definitions, each the contract of a function that does nothing.
+ghost use Rattle.jv_base.specs.Laws.{OneFieldType, OneDescriptor, OneEntry, OneSite, GoalOrder};
+
+/// No two field types have one text, so what `read_field_type` gives is the one with this text.
+pub fn one_field_type()
+    ensures { OneFieldType }
+{}
+
+/// No two descriptors have one text, so what `read_descriptor` gives is the one with this text.
+pub fn one_descriptor()
+    ensures { OneDescriptor }
+{}
+
+/// No two entries have one text form, so what `read_entry` gives is the one with this text.
+pub fn one_entry()
+    ensures { OneEntry }
+{}
+
+/// No two goals have one text form, so what `read_site` gives is the one with this text.
+pub fn one_site()
+    ensures { OneSite }
+{}
+
+/// `compare_goals` is a total order that tells goals apart: swapping exchanges less and greater, it is transitive, and
+/// equal are only the same.
+pub fn goal_order()
+    ensures { GoalOrder }
+{}

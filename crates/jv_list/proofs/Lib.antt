@@ -1,0 +1,11 @@
+pub mod ToldLemmas
+pub mod FrontLemmas
+pub mod MemberLemmas
+pub mod CutLemmas
+pub mod LengthLemmas
+pub mod PieceLemmas
+pub mod PlaceLemmas
+pub mod TestLemmas
+pub mod TextLemmas
+pub mod BitLemmas
+pub mod OnlyLemmas
