@@ -19,7 +19,8 @@ GoForward =
     instr_at code pc ≡ Some (instr, next) → GoesForward code pc instr next
 
 -- a shape stands where it is expected itself; and what stands where a second is expected stands where a third is, if
--- the second does
+-- the
+-- second does
 pub record WeakerOrder : Type 0 where
   pub same : (shape : Shape) → IsWeaker shape shape
   pub chained : (first second third : Shape) →

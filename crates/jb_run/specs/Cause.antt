@@ -24,7 +24,8 @@ abbrev pub status_of : List Line → ℕ
 status_of lines = if failure_count lines == 0 then 0 else 10
 
 -- the bytes are a class with the thin method of the entry, no run of which is stuck, and the lines are for its sites,
--- in order, with verdicts that are true of it
+-- in
+-- order, with verdicts that are true of it
 pub record AreLinesOf (bytes : List ℕ) (entry : MethodId) (lines : List Line) : Type 0 where
   pub method : ThinMethod
   pub thin : Thin bytes entry method
@@ -92,7 +93,8 @@ pub record IsReported (told : Option (List File)) (words : List (List ℕ)) (bef
   pub report_is : IsReport told dir entry before report
 
 -- The cause of the status before the write: 6 is free, and has no report; 1 comes where the words are no command; 3
--- where they are one, and the read failed; any other comes from the report.
+-- where they
+-- are one, and the read failed; any other comes from the report.
 abbrev pub Cause : Option (List File) → List (List ℕ) → ℕ → Option Report → Type 0
 Cause told words before None = (before ≡ 6) ⊎ (((before ≡ 1) × IsUsage words) ⊎ ((before ≡ 3) × IsCommand words))
 Cause told words before (Some report) = IsReported told words before report

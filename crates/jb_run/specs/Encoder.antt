@@ -92,7 +92,8 @@ pub record IsFormed (shapes : Shapes) (encoder : Encoder) : Type 0 where
   pub raised : (pc : ℕ) → IsBitBelow encoder.formula.variables (raised_at encoder.raised.items pc)
 
 -- the encoder went on from a frame: where the guard is true, the run comes from each state that the frame shows to what
--- is given; where it is false, all is as before. No frame comes below a pc, and nothing is thrown from it on.
+-- is
+-- given; where it is false, all is as before. No frame comes below a pc, and nothing is thrown from it on.
 pub record Goes (shapes : Shapes) (old new : Encoder) (low : ℕ) (frame : Frame) (go : (ℕ → Bool) → State
     → Came) : Type 0 where
   pub extends : Extends old.formula new.formula

@@ -19,7 +19,8 @@ abbrev pub value_at : List Bool → ℕ → Bool
 value_at values variable = slice_index_or values variable false
 
 -- the answer is right: the values satisfy the formula and the goal; or, where the variables are those of the formula,
--- no assignment does
+-- no
+-- assignment does
 abbrev pub IsRight : Formula → Bit → Answer → Type 0
 IsRight formula goal (Sat values) =
     (length values.items ≡ formula.variables) × Satisfies (value_at values.items) formula
