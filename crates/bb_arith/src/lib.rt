@@ -1,0 +1,12 @@
+//! Arithmetic of words: literals for the bits of numbers, the lowest first.
+#![tactic(auto)]
+
+mod choice;
+mod order;
+mod sum;
+#[cfg(test)]
+mod tests;
+
+pub use choice::choose;
+pub use order::{below, less};
+pub use sum::{add, sub};
