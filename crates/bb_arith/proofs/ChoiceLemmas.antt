@@ -21,7 +21,7 @@ chosen_number choice a b w = if lit_value w choice then number_of w a else numbe
 pub word_next : ExtendsThrough → (old mid new : Formula) (i : ℕ) (made : List Lit) (lit : Lit) (bit : (ℕ → Bool) → Bool)
     (value next : (ℕ → Bool) → ℕ) → i < length made → ((w : ℕ → Bool) → value w + 2 ^ i * bit_number (bit w) ≡ next w)
     → IsWordGate old mid (take i made) value → IsGate mid new lit bit
-        → IsWordGate old new (take (i + 1) (set made i lit)) next
+    → IsWordGate old new (take (i + 1) (set made i lit)) next
 word_next through old mid new i made lit bit value next lt more so_far gate =
     let grows : variables_of mid ≤ variables_of new = gate.extends.continues.grows in
     record {
@@ -47,13 +47,13 @@ choose_more false x y p x' y' a b first second = sym second
 
 pub choice_more : (choice : Lit) (a b : List Lit) (i : ℕ) (d : Lit) → i < length a → i < length b → (w : ℕ → Bool)
     → chosen_number choice (take i a) (take i b) w + 2 ^ i * bit_number
-        (of_three chosen choice (get_or a i d) (get_or b i d) w)
+    (of_three chosen choice (get_or a i d) (get_or b i d) w)
     ≡ chosen_number choice (take (i + 1) a) (take (i + 1) b) w
 choice_more choice a b i d in_a in_b w =
     choose_more (lit_value w choice) (number_of w (take i a)) (number_of w (take i b)) (2 ^ i)
-        (number_of w (take (i + 1) a))
+    (number_of w (take (i + 1) a))
     (number_of w (take (i + 1) b)) (lit_value w (get_or a i d)) (lit_value w (get_or b i d)) (number_take w a i d in_a)
-        (number_take w b i d in_b)
+    (number_take w b i d in_b)
 
 pub choice_whole : (choice : Lit) (a b : List Lit) (i : ℕ) → length a ≤ i → length b ≤ i → (w : ℕ → Bool)
     → chosen_number choice (take i a) (take i b) w ≡ chosen_number choice a b w

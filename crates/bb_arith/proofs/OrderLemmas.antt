@@ -58,7 +58,7 @@ pub order_step : ExtendsThrough → OppositeValue
     → IsGate old new next (order_of (take (i + 1) a) (take (i + 1) b))
 order_step through opposite old mid new a b i d nx so_far next in_a in_b is first second =
     let same : length (take i a) ≡ length (take i b) =
-        length-take-le i a (omega (arith, in_a)) ∙ sym (length-take-le i b (omega (arith, in_b))) in
+    length-take-le i a (omega (arith, in_a)) ∙ sym (length-take-le i b (omega (arith, in_b))) in
     let turned = λ (w : ℕ → Bool). ap (lit_value w) is ∙ opposite w (get_or a i d) in
     let made = order_gate through old mid new (take i a) (take i b) (get_or a i d) (get_or b i d) nx so_far next same
     turned first second in

@@ -33,19 +33,19 @@ signed_order p q x y true true double x_lt y_lt =
     same_order (x + p * 1) (y + p * 1) (q - suc (y + p * 1)) (q - suc (x + p * 1))
     (λ h. omega (arith, h, double, y_lt)) (λ h. omega (arith, h, double, x_lt))
     ∙ sym (same_signs _ _ _ _ (upper_half q (x + p * 1) (omega (arith, double)))
-        (upper_half q (y + p * 1) (omega (arith, double))))
+    (upper_half q (y + p * 1) (omega (arith, double))))
 signed_order p q x y true false double x_lt y_lt =
     lt-ltb (x + p * 0) (y + p * 1) (omega (arith, x_lt))
     ∙ sym (same_signs _ _ _ _ (upper_half q (x + p * 1) (omega (arith, double)))
-        (lower_half q (y + p * 0) (omega (arith, double, y_lt))))
+    (lower_half q (y + p * 0) (omega (arith, double, y_lt))))
 signed_order p q x y false true double x_lt y_lt =
     le-ltb (x + p * 1) (y + p * 0) (omega (arith, y_lt))
     ∙ sym (same_signs _ _ _ _ (lower_half q (x + p * 0) (omega (arith, double, x_lt)))
-        (upper_half q (y + p * 1) (omega (arith, double))))
+    (upper_half q (y + p * 1) (omega (arith, double))))
 signed_order p q x y false false double x_lt y_lt =
     same_order (x + p * 0) (y + p * 0) (x + p * 0) (y + p * 0) (λ h. h) (λ h. h)
     ∙ sym (same_signs _ _ _ _ (lower_half q (x + p * 0) (omega (arith, double, x_lt)))
-        (lower_half q (y + p * 0) (omega (arith, double, y_lt))))
+    (lower_half q (y + p * 0) (omega (arith, double, y_lt))))
 
 -- all bits of a word, the highest apart
 number_whole : (w : ℕ → Bool) (lits : List Lit) (n : ℕ) (d : Lit) → length lits ≡ n + 1
@@ -57,32 +57,32 @@ number_topped : (w : ℕ → Bool) (lits : List Lit) (n : ℕ) (top : Lit) → l
     → number_of w (set lits n top) ≡ number_of w (take n lits) + 2 ^ n * bit_number (lit_value w top)
 number_topped w lits n top len =
     ap (number_of w)
-        (sym (take_all (n + 1) (set lits n top) (let same = length-set lits n top in omega (arith, len, same))))
+    (sym (take_all (n + 1) (set lits n top) (let same = length-set lits n top in omega (arith, len, same))))
     ∙ set_number w lits n top (lit_value w top) (omega (arith, len)) refl
 
 take_below : (w : ℕ → Bool) (lits : List Lit) (n : ℕ) → length lits ≡ n + 1 → number_of w (take n lits) < 2 ^ n
 take_below w lits n len =
     subst (λ (m : ℕ). number_of w (take n lits) < 2 ^ m) (length-take-le n lits (omega (arith, len)))
-        (number_below w (take n lits))
+    (number_below w (take n lits))
 
 signed_whole : (w : ℕ → Bool) (lits : List Lit) (n : ℕ) (d : Lit) → length lits ≡ n + 1
     → signed_of w lits ≡ as_signed (2 ^ (n + 1))
-        (number_of w (take n lits) + 2 ^ n * bit_number (lit_value w (get_or lits n d)))
+    (number_of w (take n lits) + 2 ^ n * bit_number (lit_value w (get_or lits n d)))
 signed_whole w lits n d len =
     ap (λ (m : ℕ). as_signed (2 ^ m) (number_of w lits)) len
-        ∙ ap (as_signed (2 ^ (n + 1))) (number_whole w lits n d len)
+    ∙ ap (as_signed (2 ^ (n + 1))) (number_whole w lits n d len)
 
 -- two words whose highest literals are exchanged
 exchanged_order : (w : ℕ → Bool) (a b : List Lit) (n : ℕ) (d : Lit) → length a ≡ n + 1 → length b ≡ n + 1
     → nat_lt (number_of w (set a n (get_or b n d))) (number_of w (set b n (get_or a n d))) ≡ int_lt (signed_of w a)
-        (signed_of w b)
+    (signed_of w b)
 exchanged_order w a b n d len_a len_b =
     ap (λ (k : ℕ). nat_lt k (number_of w (set b n (get_or a n d)))) (number_topped w a n (get_or b n d) len_a)
     ∙ ap (nat_lt (number_of w (take n a) + 2 ^ n * bit_number (lit_value w (get_or b n d))))
-        (number_topped w b n (get_or a n d) len_b)
+    (number_topped w b n (get_or a n d) len_b)
     ∙ signed_order (2 ^ n) (2 ^ (n + 1)) (number_of w (take n a)) (number_of w (take n b))
     (lit_value w (get_or a n d)) (lit_value w (get_or b n d)) (double_next n) (take_below w a n len_a)
-        (take_below w b n len_b)
+    (take_below w b n len_b)
     ∙ sym (same_signs _ _ _ _ (signed_whole w a n d len_a) (signed_whole w b n d len_b))
 
 -- words without a bit

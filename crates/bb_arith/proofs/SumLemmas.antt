@@ -19,7 +19,7 @@ use Rattle.bb_arith.proofs.WordLemmas.{number_take, set_number, word_grown, word
 -- one more column of a sum
 column : (p q s x y one : ℕ) (a b c : Bool) → q ≡ 2 * p → s + p * bit_number c ≡ x + y + one
     → (s + p * bit_number (parity a b c)) + q * bit_number
-        (majority a b c) ≡ (x + p * bit_number a) + (y + p * bit_number b) + one
+    (majority a b c) ≡ (x + p * bit_number a) + (y + p * bit_number b) + one
 column p q s x y one true true true double e = omega (arith, double, e)
 column p q s x y one true true false double e = omega (arith, double, e)
 column p q s x y one true false true double e = omega (arith, double, e)
@@ -66,14 +66,14 @@ module _ (through : ExtendsThrough) (later : ShowsLater) (i : ℕ) (old mid new 
             let k = grown.keeps w h in
             let c = lit_value w carry in
             let before =
-                subst (λ (t : Bool). number_of w (take i sum) + 2 ^ i * bit_number t ≡ number_of w
-                (take i a) + number_of w (take i b) + bit_number one)
+            subst (λ (t : Bool). number_of w (take i sum) + 2 ^ i * bit_number t ≡ number_of w
+            (take i a) + number_of w (take i b) + bit_number one)
             (sym ((so_far.shows in_a).is w k)) (so_far.is w k) in
             same_sums _ _ _ _ _ _ _ _
-                (set_number w sum i s (of_three parity (get_or a i d) (get_or b i d) carry w) in_sum (bit.is w h))
-                (number_take w a i d in_a) (number_take w b i d in_b)
+            (set_number w sum i s (of_three parity (get_or a i d) (get_or b i d) carry w) in_sum (bit.is w h))
+            (number_take w a i d in_a) (number_take w b i d in_b)
             (column (2 ^ i) (2 ^ (i + 1)) (number_of w (take i sum)) (number_of w (take i a)) (number_of w (take i b))
-                (bit_number one)
+            (bit_number one)
             (lit_value w (get_or a i d)) (lit_value w (get_or b i d)) c (double_next i) before);
         shows = more;
       }
@@ -86,12 +86,12 @@ module _ (through : ExtendsThrough) (later : ShowsLater) (i : ℕ) (old mid new 
   sum_more between after made so_far bit gate is is_made =
       let value = of_three majority (get_or a i d) (get_or b i d) carry in
       let gate_new : IsGate between new made value = subst (λ (f : Formula). IsGate between f made value) (sym is) gate
-          in
+      in
       let last : IsGate between new next value = subst (λ (l : Lit). IsGate between new l value) (sym is_made) gate_new
-          in
+      in
       sum_step so_far (through mid between new bit.extends last.extends)
       (later between new s (of_three parity (get_or a i d) (get_or b i d) carry) last.extends.continues bit.shows)
-          (λ lt. last.shows)
+      (λ lt. last.shows)
 
   -- without one, at the end
   pub sum_last : (after : Formula) → IsSumSoFar i old mid a b sum one carry
@@ -122,7 +122,7 @@ sum_word i n old new a b sum one carry is len_a len_b len_sum so_far =
       is = λ w h.
           let below = subst (λ (m : ℕ). number_of w sum < 2 ^ m) len_sum (number_below w sum) in
           wrapped (number_of w sum) (2 ^ n) (bit_number (so_far.out w))
-              (number_of w a + number_of w b + bit_number one) below
+          (number_of w a + number_of w b + bit_number one) below
           (ap (λ (m : ℕ). number_of w sum + 2 ^ m * bit_number (so_far.out w)) (sym is)
           ∙ ap (λ (lits : List Lit). number_of w lits + 2 ^ i * bit_number (so_far.out w)) (sym all_sum)
           ∙ so_far.is w h

@@ -26,13 +26,13 @@ word_grown old new lits le all =
 pub word_push : (f : Formula) (lits : List Lit) (lit : Lit) → AreOf f lits → IsOf f lit → AreOf f (lits ++ lit ∷ [])
 word_push f lits lit all one =
     recursion_from_All (IsOf f) (lits ++ lit ∷ [])
-        (All-push (IsOf f) lits lit (All-from_recursion (IsOf f) lits all) one)
+    (All-push (IsOf f) lits lit (All-from_recursion (IsOf f) lits all) one)
 
 pub word_set : (f : Formula) (lits : List Lit) (i : ℕ) (lit : Lit) → AreOf f lits → IsOf f lit
     → AreOf f (set lits i lit)
 word_set f lits i lit all one =
     recursion_from_All (IsOf f) (set lits i lit)
-        (All-set (IsOf f) lits i lit one (All-from_recursion (IsOf f) lits all))
+    (All-set (IsOf f) lits i lit one (All-from_recursion (IsOf f) lits all))
 
 -- a literal of a word, in a formula that grew
 pub bit_within : (old new : Formula) (lits : List Lit) (i : ℕ) (d : Lit) → variables_of old ≤ variables_of new
@@ -45,7 +45,7 @@ pub three_of : (f : Formula) (x y z : Lit) → IsOf f x → IsOf f y → IsOf f 
 three_of f x y z hx hy hz =
     recursion_from_All (IsOf f) (x ∷ y ∷ z ∷ [])
     (All-cons (IsOf f) x (y ∷ z ∷ []) hx
-        (All-cons (IsOf f) y (z ∷ []) hy (All-cons (IsOf f) z [] hz (All-nil (IsOf f)))))
+    (All-cons (IsOf f) y (z ∷ []) hy (All-cons (IsOf f) z [] hz (All-nil (IsOf f)))))
 
 pub opposites_within : OppositeVariable → (f : Formula) (lits : List Lit) → AreOf f lits
     → AreOf f (map opposite_of lits)
@@ -53,7 +53,7 @@ opposites_within same f lits all =
     recursion_from_All (IsOf f) (map opposite_of lits)
     (All-map (IsOf f) opposite_of lits
     (All-weaker (IsOf f) (λ lit. IsOf f (opposite_of lit))
-        (λ lit lt. subst (λ (v : ℕ). v < variables_of f) (sym (same lit)) lt) lits
+    (λ lit lt. subst (λ (v : ℕ). v < variables_of f) (sym (same lit)) lt) lits
     (All-from_recursion (IsOf f) lits all)))
 
 turned_bit : (x : Bool) (n m p : ℕ) → n + m + 1 ≡ p → (bit_number (not x) + 2 * n) + (bit_number x + 2 * m) + 1 ≡ 2 * p
@@ -66,9 +66,9 @@ pub number_opposites : OppositeValue → (w : ℕ → Bool) (lits : List Lit)
 number_opposites opposite w [] = let one : 0 + 0 + 1 ≡ 2 ^ 0 = omega arith in one
 number_opposites opposite w (lit ∷ lits) =
     ap (λ (x : Bool). bit_number x + 2 * number_of w
-        (map opposite_of lits) + (bit_number (lit_value w lit) + 2 * number_of w lits) + 1) (opposite w lit)
+    (map opposite_of lits) + (bit_number (lit_value w lit) + 2 * number_of w lits) + 1) (opposite w lit)
     ∙ turned_bit (lit_value w lit) (number_of w (map opposite_of lits)) (number_of w lits) (2 ^ length lits)
-        (number_opposites opposite w lits)
+    (number_opposites opposite w lits)
     ∙ double_power (length lits)
 
 -- the first i + 1 bits of a word

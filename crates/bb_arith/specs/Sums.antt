@@ -16,5 +16,5 @@ pub record IsSumSoFar (i : ℕ) (old new : Formula) (a b sum : List Lit) (one : 
   pub out : (ℕ → Bool) → Bool
   pub is : (w : ℕ → Bool) → Satisfies w (clauses_of new)
       → number_of w (take i sum) + 2 ^ i * bit_number (out w) ≡ number_of w (take i a) + number_of w
-          (take i b) + bit_number one
+      (take i b) + bit_number one
   pub shows : i < length a → Shows new carry out

@@ -4,8 +4,6 @@
 mod choice;
 mod order;
 mod sum;
-#[cfg(test)]
-mod tests;
 
 pub use choice::choose;
 pub use order::{below, less};

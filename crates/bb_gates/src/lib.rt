@@ -10,8 +10,6 @@ mod relation;
 mod signs;
 mod slices;
 mod table;
-#[cfg(test)]
-mod tests;
 mod triple;
 
 pub use adder::{carry_bit, sum_bit};

@@ -6,8 +6,6 @@ mod clause;
 mod formula;
 mod laws;
 mod lit;
-#[cfg(test)]
-mod tests;
 
 pub use assignment::{Assignment, holds};
 pub use clause::Clause;

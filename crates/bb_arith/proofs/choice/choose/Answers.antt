@@ -64,5 +64,5 @@ returns-clause-gate g c =
     let le_a : length a ≤ i = omega (arith, past, c.told-a) in
     let le_b : length b ≤ i = omega (arith, past, c.told-b) in
     word_whole c.args.formula.now c.loop-i.formula i c.loop-i.made (chosen_number choice (take i a) (take i b))
-        (chosen_number choice a b)
+    (chosen_number choice a b)
     (omega (arith, le_a, same)) (choice_whole choice a b i le_a le_b) c.loop-i.invariant.gate

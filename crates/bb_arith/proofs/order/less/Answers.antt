@@ -33,5 +33,5 @@ returns-clause-gate g c =
     IfOk-weaker c.below.result (λ lit. IsGate old new lit (λ w. nat_lt (number_of w x) (number_of w y)))
     (λ lit. IsGate old new lit (λ w. int_lt (signed_of w a) (signed_of w b)))
     (λ lit gate. gate_same old new lit (λ w. nat_lt (number_of w x) (number_of w y))
-        (λ w. int_lt (signed_of w a) (signed_of w b)) order gate)
+    (λ w. int_lt (signed_of w a) (signed_of w b)) order gate)
     c.below.ensures.gate

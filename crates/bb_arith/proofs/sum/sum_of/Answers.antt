@@ -23,7 +23,7 @@ sum_bit-requires g c =
     let so_far = c.loop-i.invariant.sum in
     let grows : variables_of old ≤ variables_of mid = so_far.extends.continues.grows in
     three_of mid _ _ _ (bit_within old mid a i d grows c.requires.first in_a)
-        (bit_within old mid b i d grows c.requires.second in_b)
+    (bit_within old mid b i d grows c.requires.second in_b)
     (so_far.shows in_a).within
 
 pub loop-i-init : goal.loop-i-init
@@ -43,7 +43,7 @@ returns-in_err-sum-clause-keeps g c =
     let old = c.args.formula.now in
     let mid = c.loop-i.formula in
     laws.through old mid c.sum_bit.new.formula
-        (laws.extends old mid c.loop-i.invariant.sum.extends) c.sum_bit.ensures.keeps
+    (laws.extends old mid c.loop-i.invariant.sum.extends) c.sum_bit.ensures.keeps
 
 pub returns-in_err-carry-2-clause-keeps : goal.returns-in_err-carry-2-clause-keeps
 returns-in_err-carry-2-clause-keeps g c =
@@ -107,6 +107,6 @@ returns-clause-gate g c =
     let past = c.loop-i-test.false in
     let within = c.loop-i.auto.i-end in
     sum_word c.loop-i.i g.row.W c.args.formula.now c.loop-i.formula c.args.a.now c.args.b.now c.loop-i.sum c.args.one
-        c.loop-i.carry
+    c.loop-i.carry
     (omega (arith, past, within)) c.told-a c.told-b (let same = c.loop-i.invariant.width
-        in omega (arith, same, c.told-a)) c.loop-i.invariant.sum
+    in omega (arith, same, c.told-a)) c.loop-i.invariant.sum
