@@ -10,10 +10,10 @@ use Rattle.jv_base.specs.Entry.{IsEntryMethod, IsEntryText}
 use Rattle.jv_base.specs.Forms.{IsSpelled}
 use Rattle.jv_base.specs.Front.{StopsAt}
 use Rattle.jv_base.specs.Calls.Fronts.{IsLongestFront, Joined, LeavesAt}
-use Rattle.jv_base.specs.Calls.Parts.{IsMethodText}
+use Rattle.jv_base.specs.Calls.Parts.{IsMethodText, IsClassAndMethod}
 use Rattle.jv_base.specs.Names.{IsNameByte, IsUnqualifiedName}
 use Rattle.jv_base.specs.Spelling.{name_text, entry_spelling}
-use Rattle.jv_base.proofs.FrontLemmas.{stops_at, front_same}
+use Rattle.jv_base.proofs.FrontLemmas.{leaves_not, leaves_stops}
 use Rattle.jv_base.proofs.GoalLemmas.{method_of, method_same}
 use Rattle.jv_base.proofs.JoinedLemmas.{IsParting, joined_all}
 use Rattle.jv_base.proofs.NameLemmas.{name_same}
@@ -31,14 +31,11 @@ IsName text = IsSpelled MethodName text
 abbrev IsDescriptor : List ℕ → Type 0
 IsDescriptor text = IsSpelled MethodDescriptor text
 
-abbrev IsParted : List ℕ → Type 0
-IsParted text = Joined 46 IsClass IsMethodText text
-
 regroup : (a b c : List ℕ) → a ++ 46 ∷ [] ++ b ++ 58 ∷ [] ++ c ≡ a ++ 46 ∷ (b ++ 58 ∷ c)
 regroup a b c = simp append_assoc
 
 -- an entry's text, by its marks
-parted : (text : List ℕ) → IsEntryText text → IsParted text
+parted : (text : List ℕ) → IsEntryText text → IsClassAndMethod text
 parted text (m, h, e) = (
   name_text m.class,
   name_text m.name ++ 58 ∷ name_text m.desc,
@@ -53,14 +50,14 @@ parted text (m, h, e) = (
   e ∙ regroup (name_text m.class) (name_text m.name) (name_text m.desc),
 )
 
-whole : (text : List ℕ) → IsParted text → IsEntryText text
+whole : (text : List ℕ) → IsClassAndMethod text → IsEntryText text
 whole text (a, r, (class, cu, cf, ce), (b, c, (name, nu, nf, ne), (desc, du, df, de), k), e) = (
   method_of class name desc,
   record { class_text = cu; name_text = nu; desc_text = du; class = cf; name = nf; desc = df },
   rw (e, k, ce, ne, de) (sym (regroup (name_text class) (name_text name) (name_text desc))),
 )
 
-entry_ascii : (text : List ℕ) → IsParted text → All (λ b. b < 128) text
+entry_ascii : (text : List ℕ) → IsClassAndMethod text → All (λ b. b < 128) text
 entry_ascii =
     let method_ascii : (text : List ℕ) → IsMethodText text → All (λ b. b < 128) text =
     joined_all (λ b. b < 128) 58 IsName IsDescriptor (omega arith) (spelled_ascii MethodName)
@@ -98,18 +95,12 @@ entry_parting = record {
 
 -- ---- where a text leaves it
 
-module _ (text bytes : List ℕ) (at : ℕ) (same : bytes ≡ text) (h : LeavesAt IsParted bytes 0 at) where
+module _ (text bytes : List ℕ) (at : ℕ) (same : bytes ≡ text) (h : LeavesAt IsClassAndMethod bytes 0 at) where
   pub entry_not : (m : MethodId) → IsEntryMethod m → text ≡ entry_spelling m → ⊥
-  entry_not m is e = h.outside (subst IsParted (sym same) (parted text (m, is, e)))
+  entry_not m is e = leaves_not IsClassAndMethod IsEntryText whole parted entry_ascii text bytes at same h (m, is, e)
 
   pub entry_stops : StopsAt IsEntryText text at
-  entry_stops =
-      let place : h.count ≡ at = omega (arith, h.sum) in
-      let front : IsLongestFront IsEntryText bytes h.count =
-      front_same IsParted IsEntryText whole parted bytes h.count h.front in
-      let ends : StopsAt IsEntryText bytes h.count =
-      stops_at IsEntryText bytes h.count (λ t k. entry_ascii t (parted t k)) front in
-      subst (λ (t : List ℕ). StopsAt IsEntryText t at) same (subst (λ (n : ℕ). StopsAt IsEntryText bytes n) place ends)
+  entry_stops = leaves_stops IsClassAndMethod IsEntryText whole parted entry_ascii text bytes at same h
 
 -- ---- one method
 

@@ -11,7 +11,7 @@ use Rattle.std.proofs.lemmas.List.Elements.{All-take}
 use Rattle.std.proofs.lemmas.Str.{IsUtf8-from_ascii, chars-IsAscii}
 use Rattle.std.proofs.lemmas.Str.Ascii.{IsAscii-from_all}
 use Rattle.jv_base.specs.Front.{Begins, StopsAt}
-use Rattle.jv_base.specs.Calls.Fronts.{IsLongestFront}
+use Rattle.jv_base.specs.Calls.Fronts.{IsLongestFront, LeavesAt}
 
 -- in a grammar of ASCII texts a place by bytes is one by characters
 pub stops_at : (grammar : List ℕ → Type 0) (text : List ℕ) (count : ℕ)
@@ -49,6 +49,20 @@ front_same one other to from text count h = record {
   begins = (h.begins.0, to (take count text ++ h.begins.0) h.begins.1);
   longest = λ more lt le k. h.longest more lt le (k.0, from (take more text ++ k.0) k.1);
 }
+
+-- a text of ASCII that leaves one leaves the other, by its characters
+module _ (one other : List ℕ → Type 0) (to : (t : List ℕ) → one t → other t) (from : (t : List ℕ) → other t → one t)
+    (ascii : (t : List ℕ) → one t → All (λ b. b < 128) t) (text bytes : List ℕ) (at : ℕ) (same : bytes ≡ text)
+    (h : LeavesAt one bytes 0 at) where
+  pub leaves_not : other text → ⊥
+  leaves_not is = h.outside (subst one (sym same) (from text is))
+
+  pub leaves_stops : StopsAt other text at
+  leaves_stops =
+      let place : h.count ≡ at = omega (arith, h.sum) in
+      let front : IsLongestFront other bytes h.count = front_same one other to from bytes h.count h.front in
+      let ends : StopsAt other bytes h.count = stops_at other bytes h.count (λ t k. ascii t (from t k)) front in
+      subst (λ (t : List ℕ). StopsAt other t at) same (subst (λ (n : ℕ). StopsAt other bytes n) place ends)
 
 -- the texts of two grammars
 abbrev pub Either : (List ℕ → Type 0) → (List ℕ → Type 0) → List ℕ → Type 0

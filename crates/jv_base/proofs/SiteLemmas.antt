@@ -14,9 +14,10 @@ use Rattle.jv_base.specs.Forms.{IsSpelled}
 use Rattle.jv_base.specs.Front.{StopsAt}
 use Rattle.jv_base.specs.Calls.Fronts.{IsLongestFront, Joined, LeavesAt}
 use Rattle.jv_base.specs.Calls.Parts.{IsKindText, IsPcText, IsPlaceText, IsDescText, IsAnyMethodText, IsMemberText}
+use Rattle.jv_base.specs.Calls.Parts.{IsClassAndMember}
 use Rattle.jv_base.specs.Spelling.{name_text, kind_name, site_spelling}
 use Rattle.jv_base.proofs.EntryLemmas.{some_descriptor}
-use Rattle.jv_base.proofs.FrontLemmas.{stops_at, front_same}
+use Rattle.jv_base.proofs.FrontLemmas.{leaves_not, leaves_stops}
 use Rattle.jv_base.proofs.GoalLemmas.{method_of, goal_of, method_same, goal_same}
 use Rattle.jv_base.proofs.JoinedLemmas.{IsParting, joined_all}
 use Rattle.jv_base.proofs.KindLemmas.{kind_ascii, kind_told}
@@ -64,9 +65,6 @@ site_parting = record {
 
 -- ---- a goal in parts
 
-abbrev IsParted : List ℕ → Type 0
-IsParted text = Joined 46 IsClass IsMemberText text
-
 site_split : (class name desc pc kind : List ℕ)
     → class ++ 46 ∷ (name ++ 58 ∷ (desc ++ 64 ∷ (pc ++ 58 ∷ kind)))
     ≡ (class ++ (46 ∷ []) ++ name ++ (58 ∷ []) ++ desc) ++ (64 ∷ []) ++ pc ++ (58 ∷ []) ++ kind
@@ -78,7 +76,7 @@ site_is : (text class name desc : List ℕ) (pc : ℕ) (kind : Kind)
     → text ≡ (class ++ (46 ∷ []) ++ name ++ (58 ∷ []) ++ desc) ++ (64 ∷ []) ++ decimal pc ++ (58 ∷ []) ++ kind_name kind
 site_is text class name desc pc kind e = e ∙ site_split class name desc (decimal pc) (kind_name kind)
 
-whole : (text : List ℕ) → IsParted text → IsSiteText text
+whole : (text : List ℕ) → IsClassAndMember text → IsSiteText text
 whole text (class, member, (c, cu, cf, ce), (method, desc, (m, mu, mf, me), d, e1), e0) =
     let name : List ℕ = d.2.0 in
     let place : IsPlaceText d.1 = d.3 in
@@ -114,7 +112,7 @@ split g =
     let m : MethodId = g.site.method in
     site_split (name_text m.class) (name_text m.name) (name_text m.desc) (decimal g.site.pc) (kind_name g.kind)
 
-parted : (text : List ℕ) → IsSiteText text → IsParted text
+parted : (text : List ℕ) → IsSiteText text → IsClassAndMember text
 parted text (g, k, e) =
     let m : MethodId = g.site.method in
     let place : IsPlaceText (place_of g) =
@@ -138,23 +136,17 @@ desc_ascii =
 member_ascii : AreAscii IsMemberText
 member_ascii = joined_all (λ b. b < 128) 58 IsAnyMethodText IsDescText (omega arith) method_ascii desc_ascii
 
-site_ascii : AreAscii IsParted
+site_ascii : AreAscii IsClassAndMember
 site_ascii = joined_all (λ b. b < 128) 46 IsClass IsMemberText (omega arith) (spelled_ascii ClassName) member_ascii
 
 -- ---- where a text leaves the grammar
 
-module _ (text bytes : List ℕ) (at : ℕ) (same : bytes ≡ text) (h : LeavesAt IsParted bytes 0 at) where
+module _ (text bytes : List ℕ) (at : ℕ) (same : bytes ≡ text) (h : LeavesAt IsClassAndMember bytes 0 at) where
   pub site_not : IsSiteText text → ⊥
-  site_not is = h.outside (subst IsParted (sym same) (parted text is))
+  site_not = leaves_not IsClassAndMember IsSiteText whole parted site_ascii text bytes at same h
 
   pub site_stops : StopsAt IsSiteText text at
-  site_stops =
-      let place : h.count ≡ at = omega (arith, h.sum) in
-      let front : IsLongestFront IsSiteText bytes h.count =
-      front_same IsParted IsSiteText whole parted bytes h.count h.front in
-      let ends : StopsAt IsSiteText bytes h.count =
-      stops_at IsSiteText bytes h.count (λ t k. site_ascii t (parted t k)) front in
-      subst (λ (t : List ℕ). StopsAt IsSiteText t at) same (subst (λ (n : ℕ). StopsAt IsSiteText bytes n) place ends)
+  site_stops = leaves_stops IsClassAndMember IsSiteText whole parted site_ascii text bytes at same h
 
 -- ---- a goal is told by its text
 

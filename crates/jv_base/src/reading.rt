@@ -6,7 +6,7 @@ ghost use Rattle.std.specs.Fmt.{digit_glyph};
 ghost use Rattle.jv_base.specs.declared.method.MethodId.{MethodId};
 ghost use Rattle.jv_base.specs.Entry.{IsEntryMethod, IsEntryText};
 ghost use Rattle.jv_base.specs.Forms.{IsTextOf};
-ghost use Rattle.jv_base.specs.Calls.Parts.{IsMethodText};
+ghost use Rattle.jv_base.specs.Calls.Parts.{IsMethodText, IsClassAndMethod};
 ghost use Rattle.jv_base.specs.Calls.Fronts.{HasFront, LeavesAt};
 ghost use Rattle.jv_base.specs.Front.{StopsAt};
 ghost use Rattle.jv_base.specs.Spelling.{IsUnit, escaped_unit, escape_text, character_text, name_text, entry_spelling};
@@ -142,6 +142,20 @@ fn read_method(alloc: Global, text: &[u8], place: u64) -> Result<(Name, Name), T
     Ok((name, desc))
 }
 
+// The method whose text form, by its bytes, this is.
+fn entry_of(alloc: Global, text: &[u8]) -> Result<MethodId, TextFault>
+    ensures found { IfOk result (λ m. IsEntryMethod m × (text.now ≡ entry_spelling m)) }
+    ensures fault { (at : ℕ) → result ≡ Err (TextFault.Bad at) → LeavesAt IsClassAndMethod text.now 0 at }
+{
+    let Some((class, method)) = cut(text, b'.') else {
+        return Err(TextFault::Bad(spelled_front(Form::ClassName, text) as u64));
+    };
+    let method_place = class.len() as u64 + 1;
+    let class = part_of(alloc, Form::ClassName, class, 0)?;
+    let (name, desc) = read_method(alloc, method, method_place)?;
+    Ok(MethodId { class, name, desc })
+}
+
 /// The method whose text form this is. `Bad` comes exactly where it is no entry's, with the number of characters of its
 /// longest prefix that begins one.
 pub fn read_entry(alloc: Global, text: &str) -> Result<MethodId, TextFault>
@@ -150,12 +164,5 @@ pub fn read_entry(alloc: Global, text: &str) -> Result<MethodId, TextFault>
         → (m : MethodId) → IsEntryMethod m → text.now ≡ entry_spelling m → ⊥ }
     ensures fault { (place : ℕ) → result ≡ Err (TextFault.Bad place) → StopsAt IsEntryText text.now place }
 {
-    let bytes = text.as_bytes();
-    let Some((class, method)) = cut(bytes, b'.') else {
-        return Err(TextFault::Bad(spelled_front(Form::ClassName, bytes) as u64));
-    };
-    let method_place = class.len() as u64 + 1;
-    let class = part_of(alloc, Form::ClassName, class, 0)?;
-    let (name, desc) = read_method(alloc, method, method_place)?;
-    Ok(MethodId { class, name, desc })
+    entry_of(alloc, text.as_bytes())
 }

@@ -8,7 +8,7 @@ ghost use Rattle.jv_base.specs.Descriptor.{IsMethodDescriptor};
 ghost use Rattle.jv_base.specs.Entry.{IsAnyMethodName, IsSite, IsSiteText};
 ghost use Rattle.jv_base.specs.Calls.Fronts.{IsLongestFront, LeavesAt};
 ghost use Rattle.jv_base.specs.Front.{StopsAt};
-ghost use Rattle.jv_base.specs.Calls.Parts.{IsKindText, IsPcText, IsPlaceText, IsDescText, IsAnyMethodText, IsMemberText};
+ghost use Rattle.jv_base.specs.Calls.Parts.{IsKindText, IsPcText, IsPlaceText, IsDescText, IsAnyMethodText, IsMemberText, IsClassAndMember};
 ghost use Rattle.jv_base.specs.Spelling.{name_text, kind_name, site_spelling};
 
 use crate::cut::cut;
@@ -206,16 +206,13 @@ fn method_and_rest(
     Ok((name, desc, pc, kind))
 }
 
-/// The goal whose text form this is, with `<init>` and `<clinit>` among the names of methods. `Bad` comes exactly where
-/// it is no goal's, with the number of characters of its longest prefix that begins one.
-pub fn read_site(alloc: Global, text: &str) -> Result<Goal, TextFault>
+/// The goal whose text form, by its bytes, this is.
+fn goal_of(alloc: Global, text: &[u8]) -> Result<Goal, TextFault>
     ensures found { IfOk result (λ g. IsSite g × (text.now ≡ site_spelling g)) }
-    ensures outside { (place : ℕ) → result ≡ Err (TextFault.Bad place) → IsSiteText text.now → ⊥ }
-    ensures fault { (place : ℕ) → result ≡ Err (TextFault.Bad place) → StopsAt IsSiteText text.now place }
+    ensures fault { (at : ℕ) → result ≡ Err (TextFault.Bad at) → LeavesAt IsClassAndMember text.now 0 at }
 {
-    let bytes = text.as_bytes();
-    let Some((class_text, rest)) = cut(bytes, b'.') else {
-        return Err(TextFault::Bad(spelled_front(Form::ClassName, bytes) as u64));
+    let Some((class_text, rest)) = cut(text, b'.') else {
+        return Err(TextFault::Bad(spelled_front(Form::ClassName, text) as u64));
     };
     let class = part_of(alloc, Form::ClassName, class_text, 0)?;
     let (name, desc, pc, kind) = method_and_rest(alloc, rest, class_text.len() as u64 + 1)?;
@@ -224,4 +221,14 @@ pub fn read_site(alloc: Global, text: &str) -> Result<Goal, TextFault>
         site: Site { method, pc },
         kind,
     })
+}
+
+/// The goal whose text form this is, with `<init>` and `<clinit>` among the names of methods. `Bad` comes exactly where
+/// it is no goal's, with the number of characters of its longest prefix that begins one.
+pub fn read_site(alloc: Global, text: &str) -> Result<Goal, TextFault>
+    ensures found { IfOk result (λ g. IsSite g × (text.now ≡ site_spelling g)) }
+    ensures outside { (place : ℕ) → result ≡ Err (TextFault.Bad place) → IsSiteText text.now → ⊥ }
+    ensures fault { (place : ℕ) → result ≡ Err (TextFault.Bad place) → StopsAt IsSiteText text.now place }
+{
+    goal_of(alloc, text.as_bytes())
 }

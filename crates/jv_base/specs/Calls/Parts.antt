@@ -2,7 +2,7 @@
 use Rattle.std.specs.Prelude.{◌≡◌, ℕ, ◌<◌, ◌^◌, List}
 use Rattle.std.specs.Str.{IsUtf8}
 use Rattle.std.specs.Fmt.{decimal}
-use Rattle.jv_base.specs.declared.form.Form.TheVariants.{MethodName, MethodDescriptor}
+use Rattle.jv_base.specs.declared.form.Form.TheVariants.{ClassName, MethodName, MethodDescriptor}
 use Rattle.jv_base.specs.declared.method.Kind.{Kind}
 use Rattle.jv_base.specs.Entry.{IsAnyMethodName}
 use Rattle.jv_base.specs.Forms.{IsSpelled}
@@ -12,6 +12,10 @@ use Rattle.jv_base.specs.Spelling.{name_text, kind_name}
 -- METHOD:DESC of an entry
 abbrev pub IsMethodText : List ℕ → Type 0
 IsMethodText text = Joined 58 (IsSpelled MethodName) (IsSpelled MethodDescriptor) text
+
+-- CLASS.METHOD:DESC of an entry
+abbrev pub IsClassAndMethod : List ℕ → Type 0
+IsClassAndMethod text = Joined 46 (IsSpelled ClassName) IsMethodText text
 
 -- the word for a kind of fault
 abbrev pub IsKindText : List ℕ → Type 0
@@ -36,3 +40,7 @@ IsAnyMethodText text = (name : List ℕ) × IsUtf8 name × IsAnyMethodName name 
 -- METHOD:DESC@PC:KIND
 abbrev pub IsMemberText : List ℕ → Type 0
 IsMemberText text = Joined 58 IsAnyMethodText IsDescText text
+
+-- CLASS.METHOD:DESC@PC:KIND
+abbrev pub IsClassAndMember : List ℕ → Type 0
+IsClassAndMember text = Joined 46 (IsSpelled ClassName) IsMemberText text

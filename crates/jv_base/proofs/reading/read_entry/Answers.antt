@@ -1,58 +1,13 @@
--- The dot parts the class from the rest.
-use Rattle.std.proofs.Common.{◌≡◌, arith}
-use Rattle.std.proofs.lemmas.Result.{err_from_is_err_and}
-use Rattle.jv_base.proofs.EntryLemmas.{entry_parting, entry_not, entry_stops}
-use Rattle.jv_base.proofs.JoinedLemmas.{alone, in_first, in_second}
+-- A place by bytes is one by characters.
+use Rattle.jv_base.proofs.EntryLemmas.{entry_not, entry_stops}
 use Rattle.jv_base.proofs.reading.read_entry.Goals as goal
 
-pub returns-in_default-clause-outside : goal.returns-in_default-clause-outside
-returns-in_default-clause-outside c =
-    λ place e.
-    let is : place ≡ c.spelled_front.result = cc in
-    entry_not c.args.text.now c.as_bytes-bytes.result.now place c.as_bytes-bytes.ensures.value
-    (alone entry_parting c.as_bytes-bytes.result.now 0 place c.spelled_front.result c.in_default.ensures.none
-    (omega (arith, is)) c.spelled_front.ensures.longest)
+pub returns-clause-outside : goal.returns-clause-outside
+returns-clause-outside c =
+    λ place e. entry_not c.args.text.now c.as_bytes.result.now place c.as_bytes.ensures.value
+    (c.entry_of.ensures.fault place e)
 
-pub returns-in_default-clause-fault : goal.returns-in_default-clause-fault
-returns-in_default-clause-fault c =
-    λ place e.
-    let is : place ≡ c.spelled_front.result = cc in
-    entry_stops c.args.text.now c.as_bytes-bytes.result.now place c.as_bytes-bytes.ensures.value
-    (alone entry_parting c.as_bytes-bytes.result.now 0 place c.spelled_front.result c.in_default.ensures.none
-    (omega (arith, is)) c.spelled_front.ensures.longest)
-
-pub returns-in_err-class-clause-outside : goal.returns-in_err-class-clause-outside
-returns-in_err-class-clause-outside c =
-    λ place e.
-    let p = err_from_is_err_and c.from_residual.result c.from_residual.ensures.1 in
-    entry_not c.args.text.now c.as_bytes-bytes.result.now place c.as_bytes-bytes.ensures.value
-    (in_first entry_parting c.as_bytes-bytes.result.now c.in-Some.class.now c.in-Some.method.now
-    c.in-Some.ensures.parts c.in-Some.ensures.first 0 place (c.in_err-class.ensures.fault place (cc)))
-
-pub returns-in_err-class-clause-fault : goal.returns-in_err-class-clause-fault
-returns-in_err-class-clause-fault c =
-    λ place e.
-    let p = err_from_is_err_and c.from_residual.result c.from_residual.ensures.1 in
-    entry_stops c.args.text.now c.as_bytes-bytes.result.now place c.as_bytes-bytes.ensures.value
-    (in_first entry_parting c.as_bytes-bytes.result.now c.in-Some.class.now c.in-Some.method.now
-    c.in-Some.ensures.parts c.in-Some.ensures.first 0 place (c.in_err-class.ensures.fault place (cc)))
-
-pub returns-in_err-name-clause-outside : goal.returns-in_err-name-clause-outside
-returns-in_err-name-clause-outside c =
-    λ place e.
-    let p = err_from_is_err_and c.from_residual-in_err-name.result c.from_residual-in_err-name.ensures.1 in
-    let found = c.in_ok-class.ensures.found in
-    entry_not c.args.text.now c.as_bytes-bytes.result.now place c.as_bytes-bytes.ensures.value
-    (in_second entry_parting c.as_bytes-bytes.result.now c.in-Some.class.now c.in-Some.method.now
-    c.in-Some.ensures.parts (c.in_ok-class.class, found.0, found.1, found.2) 0 _ place (omega arith)
-    (c.in_err-name.ensures.fault place (cc)))
-
-pub returns-in_err-name-clause-fault : goal.returns-in_err-name-clause-fault
-returns-in_err-name-clause-fault c =
-    λ place e.
-    let p = err_from_is_err_and c.from_residual-in_err-name.result c.from_residual-in_err-name.ensures.1 in
-    let found = c.in_ok-class.ensures.found in
-    entry_stops c.args.text.now c.as_bytes-bytes.result.now place c.as_bytes-bytes.ensures.value
-    (in_second entry_parting c.as_bytes-bytes.result.now c.in-Some.class.now c.in-Some.method.now
-    c.in-Some.ensures.parts (c.in_ok-class.class, found.0, found.1, found.2) 0 _ place (omega arith)
-    (c.in_err-name.ensures.fault place (cc)))
+pub returns-clause-fault : goal.returns-clause-fault
+returns-clause-fault c =
+    λ place e. entry_stops c.args.text.now c.as_bytes.result.now place c.as_bytes.ensures.value
+    (c.entry_of.ensures.fault place e)
