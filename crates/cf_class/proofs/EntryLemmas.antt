@@ -5,7 +5,7 @@ use Rattle.std.proofs.lemmas.List.{length-append, length-replicate}
 use Rattle.cf_class.specs.declared.shape.Shape.{Shape}
 use Rattle.cf_class.specs.declared.shape.Limits.{Limits}
 use Rattle.cf_class.specs.ThinCode.{IsStart, Shapes, MeetsRules, HasInstrs, IsThin, entry_locals, IsKnownLess, First}
-use Rattle.cf_class.specs.Passes.{Covers, IsSound, shape_at}
+use Rattle.cf_class.specs.Calls.Passes.{Covers, IsSound, shape_at}
 use Rattle.cf_class.proofs.KnownLemmas.{known_refl}
 use Rattle.cf_class.proofs.SweepLemmas.{start_within}
 use Rattle.cf_class.specs.declared.shape.OperandType.{OperandType}

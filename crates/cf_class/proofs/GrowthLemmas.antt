@@ -4,7 +4,7 @@ use Rattle.std.proofs.Common.{None, refl, sym, ap, subst, ◌∙◌, arith, inl,
 use Rattle.std.proofs.lemmas.List.{length-set}
 use Rattle.cf_class.specs.declared.shape.Shape.{Shape}
 use Rattle.cf_class.specs.ThinCode.{IsStart, Shapes, IsLed, IsWeaker}
-use Rattle.cf_class.specs.Passes.{Differs, LeadsTo, LeadsToAny, RefusesAny, HaveLocals, Covers, FlowsTo, shape_at}
+use Rattle.cf_class.specs.Calls.Passes.{Differs, LeadsTo, LeadsToAny, RefusesAny, HaveLocals, Covers, FlowsTo, shape_at}
 use Rattle.cf_class.proofs.KnownLemmas.{weaker_refl, weaker_trans, known_length, joins_shape, joins_known, joins_most}
 use Rattle.jv_list.proofs.TestLemmas.{same_or_not}
 

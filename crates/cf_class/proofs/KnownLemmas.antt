@@ -8,7 +8,7 @@ use Rattle.cf_class.specs.declared.shape.OperandType.{OperandType}
 use Rattle.cf_class.specs.declared.shape.Shape.{Shape}
 use Rattle.cf_class.specs.declared.shape.Limits.{Limits}
 use Rattle.cf_class.specs.ThinCode.{takes, leaves, LocalsStep, StackSteps, Steps, IsKnownLess, IsWeaker}
-use Rattle.cf_class.specs.Passes.{both_known, AreJoined, JoinsFound}
+use Rattle.cf_class.specs.Calls.Passes.{both_known, AreJoined, JoinsFound}
 
 -- one local is known less than another
 abbrev Less : Bool → Bool → Type 0

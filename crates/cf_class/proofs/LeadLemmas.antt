@@ -2,7 +2,7 @@
 use Rattle.std.proofs.Common.{◌≡◌, ◌<◌, ℕ, List, length, slice_set, option_and_then, Option, Some, None, refl, sym, ap}
 use Rattle.std.proofs.Common.{subst, ◌∙◌, arith, inr, IfSome, get_or}
 use Rattle.cf_class.specs.declared.shape.Shape.{Shape}
-use Rattle.cf_class.specs.Passes.{JoinsFound, Differs, LeadsToAny, RefusesAny, HaveLocals, shape_at}
+use Rattle.cf_class.specs.Calls.Passes.{JoinsFound, Differs, LeadsToAny, RefusesAny, HaveLocals, shape_at}
 use Rattle.cf_class.proofs.KnownLemmas.{known_length, joins_shape}
 use Rattle.std.proofs.lemmas.Option.{slice_get_read}
 use Rattle.cf_class.proofs.GrowthLemmas.{same_some, put_same, put_other}

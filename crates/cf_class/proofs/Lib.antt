@@ -1,8 +1,8 @@
 pub mod ShapeLemmas
 pub mod SweepLemmas
 pub mod KnownLemmas
-pub mod Loop
-pub mod Same
+pub mod LoopLemmas
+pub mod UniquenessLemmas
 pub mod OpcodeLemmas
 pub mod InstrLemmas
 pub mod TargetLemmas

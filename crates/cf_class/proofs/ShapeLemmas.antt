@@ -1,7 +1,7 @@
 -- Shapes, what is known of their locals, and the steps from one to another.
 use Rattle.std.proofs.lemmas.Slice.Eq.{slice_eq-Decides}
 use Rattle.std.specs.Cmp.Lexicographic.{pointwise}
-use Rattle.cf_class.specs.Passes.{both_known}
+use Rattle.cf_class.specs.Calls.Passes.{both_known}
 use Rattle.std.proofs.Common.{◌≡◌, ◌<◌, ◌+◌, ◌++◌, ◌&&◌, ℕ, List, [], ◌∷◌, length, drop, get_or, drop-cons, add-one}
 use Rattle.std.proofs.Common.{append_assoc, not, Bool, true, false, Decides, refl, sym, arith}
 use Rattle.cf_class.specs.contracts.shape.OperandTypePartialEq.TheImpl.{eq-value}

@@ -8,7 +8,7 @@ use Rattle.cf_class.specs.declared.shape.Limits.{Limits}
 use Rattle.cf_class.specs.Instr.{instr_at}
 use Rattle.cf_class.specs.ThinCode.{IsStart, Next, Shapes, IsLed, Steps, Flows, MeetsRules, HasInstrs, falls_through}
 use Rattle.cf_class.specs.ThinCode.{target_of}
-use Rattle.cf_class.specs.Passes.{LeadsToAny, HaveLocals, Covers, IsSound, FlowsTo, CannotFlow, fall_of, shape_at}
+use Rattle.cf_class.specs.Calls.Passes.{LeadsToAny, HaveLocals, Covers, IsSound, FlowsTo, CannotFlow, fall_of, shape_at}
 use Rattle.cf_class.proofs.KnownLemmas.{known_length, steps_length, steps_more, steps_weaker}
 use Rattle.cf_class.proofs.InstrLemmas.{instr_ends, found_parts}
 use Rattle.cf_class.proofs.TargetLemmas.{target_forward}

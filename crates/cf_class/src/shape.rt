@@ -1,6 +1,6 @@
 // The shape of a frame: what is known of its locals and its operand stack, and how an instruction changes it.
 ghost use Rattle.std.specs.Prelude.{◌≡◌, ◌≢◌, ◌↔◌, List as list_of, Bool, IsTrue, IfOk, MatchOption, length};
-ghost use Rattle.cf_class.specs.Passes.{both_known, AreJoined};
+ghost use Rattle.cf_class.specs.Calls.Passes.{both_known, AreJoined};
 ghost use Rattle.cf_class.specs.declared.shape.Shape.{Shape};
 ghost use Rattle.cf_class.specs.ThinCode.{Steps, takes, leaves, MayStand, LocalsStep, StackSteps};
 

@@ -2,7 +2,7 @@
 ghost use Rattle.std.specs.Prelude.{◌≡◌};
 ghost use Rattle.std.specs.Int.{w16, w32};
 ghost use Rattle.cf_class.specs.Walk.{number_at, bytes_at};
-ghost use Rattle.cf_class.specs.Views.{Gives};
+ghost use Rattle.cf_class.specs.Calls.Views.{Gives};
 ghost use Rattle.cf_class.specs.declared.walk.Refusal.TheVariants.{NoMemory};
 
 use std::alloc::{AllocError, AllocFailed};

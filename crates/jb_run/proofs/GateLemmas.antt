@@ -11,7 +11,7 @@ use Rattle.jb_run.specs.Bits.{opposite_bit}
 use Rattle.jb_run.specs.Clauses.{clauses_of}
 use Rattle.jb_run.specs.Satisfies.{lit_value, bit_value, clause_holds, Agrees, IsBitBelow}
 use Rattle.jb_run.specs.Gate.{IsGate, AreNamed, differ, both, different}
-use Rattle.jb_run.proofs.Defined.{same, DefinesNext, next_gate, bit_agree}
+use Rattle.jb_run.proofs.DefinitionLemmas.{same, DefinesNext, next_gate, bit_agree}
 use Rattle.jv_list.proofs.PieceLemmas.{three_pieces, four_pieces}
 
 abbrev pub opposite_lit : Lit → Lit

@@ -14,7 +14,7 @@ use Rattle.jb_run.specs.declared.report.Was.TheVariants.{Found, Absent, TooLong}
 use Rattle.jb_run.specs.Cause.{HasLines, HasReport, Cause}
 use Rattle.jb_run.specs.IntLines.{IsIntVerdict, AreIntLines}
 use Rattle.jb_run.specs.Justified.{IsJustified, IsJustifiedLine, AreJustified}
-use Rattle.jb_run.proofs.InputValues.{ints_are}
+use Rattle.jb_run.proofs.InputLemmas.{ints_are}
 
 verdict_ints : (code : List ℕ) (method : MethodId) (pc : ℕ) (kind : Kind) (verdict : Verdict) →
     IsJustified code method pc kind verdict → IsIntVerdict verdict

@@ -23,8 +23,8 @@ use Rattle.jb_run.specs.Machine as machine
 use Rattle.jb_run.specs.Stack.{top, below}
 use Rattle.jb_run.specs.Shown.{ShowsInt, ShowsFrame, IsIntBelow, AreOfKinds, IsFrameOf}
 use Rattle.jb_run.specs.Encoder.{Arrives, Executes}
-use Rattle.jb_run.proofs.Rooms.{with_local_same, with_local_other}
-use Rattle.jb_run.proofs.Stacks.{top_known, top_found}
+use Rattle.jb_run.proofs.RoomLemmas.{with_local_same, with_local_other}
+use Rattle.jb_run.proofs.StackLemmas.{top_known, top_found}
 use Rattle.jb_run.proofs.NumberLemmas.{grown_none, next_goes, push_goes, taken_int}
 use Rattle.jv_list.proofs.PlaceLemmas.{slice_get-set_other}
 

@@ -11,8 +11,8 @@ use Rattle.jb_run.specs.Satisfies.{bit_value, Satisfies, IsBitBelow, AreClausesB
 use Rattle.jb_run.specs.Gate.{Extends, IsGate, AreNamed, either}
 use Rattle.jb_run.specs.Shown.{ShowsFrame, AreOfKinds, IsFrameOf}
 use Rattle.jb_run.specs.Encoder.{AreMergedStacks, MergeStacks, AreMergedLocals, AreLocalsBelow, MergeLocals, Merges}
-use Rattle.jb_run.proofs.Defined.{bit_below_more, extends_then}
-use Rattle.jb_run.proofs.Going.{word_later, kinds_later}
+use Rattle.jb_run.proofs.DefinitionLemmas.{bit_below_more, extends_then}
+use Rattle.jb_run.proofs.GrowthLemmas.{word_later, kinds_later}
 
 -- the locals of a frame are of variables below a greater number
 frame_locals : (n m : ℕ) (shape : Shape) (frame : Frame) → n ≤ m → IsFrameOf n shape frame

@@ -12,8 +12,8 @@ use Rattle.jb_run.specs.Satisfies.{IsBitBelow, AreClausesBelow}
 use Rattle.jb_run.specs.Gate.{Extends}
 use Rattle.jb_run.specs.Locals.{held, local_at}
 use Rattle.jb_run.specs.Encoder.{IsMergedInt, IsMergedLocal, IsLocalBelow, MergeLocal, AreLocalsBelow, MergeLocals}
-use Rattle.jb_run.proofs.Defined.{bit_below_more, extends_refl, extends_then}
-use Rattle.jb_run.proofs.Going.{word_later}
+use Rattle.jb_run.proofs.DefinitionLemmas.{bit_below_more, extends_refl, extends_then}
+use Rattle.jb_run.proofs.GrowthLemmas.{word_later}
 
 -- a local before the end, after one more is added
 local_before : {A : Type 0} → (locals : List (Option A)) (last : Option A) (k : ℕ) → k < length locals

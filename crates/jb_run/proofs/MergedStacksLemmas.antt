@@ -18,8 +18,8 @@ use Rattle.jb_run.specs.Satisfies.{bit_value, Satisfies, IsBitBelow, AreClausesB
 use Rattle.jb_run.specs.Gate.{bit_at, IsIntGate, AreIntsNamed, chosen}
 use Rattle.jb_run.specs.Shown.{ShowsInt, ShowsValue, ShowStack, IsOfKind, AreOfKinds}
 use Rattle.jb_run.specs.Encoder.{IsMergedOperand, MergeOperand, AreMergedStacks, MergeStacks}
-use Rattle.jb_run.proofs.Defined.{bit_below_more, extends_refl, extends_then}
-use Rattle.jb_run.proofs.Going.{kind_later, kinds_later}
+use Rattle.jb_run.proofs.DefinitionLemmas.{bit_below_more, extends_refl, extends_then}
+use Rattle.jb_run.proofs.GrowthLemmas.{kind_later, kinds_later}
 
 -- an int that shows another shows it as an operand too
 value_int : (a : ℕ → Bool) (word met : IntBits) → ((n : ℤ) → ShowsInt a word n → ShowsInt a met n) → (value : Value)

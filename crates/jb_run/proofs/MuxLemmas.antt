@@ -9,7 +9,7 @@ use Rattle.jb_run.specs.Bits.{opposite_bit}
 use Rattle.jb_run.specs.Clauses.{clauses_of}
 use Rattle.jb_run.specs.Satisfies.{bit_value, IsBitBelow, AreClausesBelow}
 use Rattle.jb_run.specs.Gate.{Extends, IsGate, AreNamed, both, either, chosen}
-use Rattle.jb_run.proofs.Defined.{bit_below_more, extends_refl, extends_then}
+use Rattle.jb_run.proofs.DefinitionLemmas.{bit_below_more, extends_refl, extends_then}
 use Rattle.jb_run.proofs.GateLemmas.{opposite_value, opposite_below}
 use Rattle.jv_list.proofs.TestLemmas.{not_neither, choice_test}
 

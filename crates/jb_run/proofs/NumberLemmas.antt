@@ -30,9 +30,9 @@ use Rattle.jb_run.specs.Machine as machine
 use Rattle.jb_run.specs.Stack.{top, below}
 use Rattle.jb_run.specs.Shown.{ShowsInt, ShowsValue, ShowsFrame, IsIntBelow, IsOfKind, AreOfKinds, IsFrameOf}
 use Rattle.jb_run.specs.Encoder.{Here, came_of, IsFormed, Goes, HasFrame, Arrives, IsReady, Executes}
-use Rattle.jb_run.proofs.Defined.{extends_refl}
-use Rattle.jb_run.proofs.Going.{HasGrown, formed_grown, kinds_later, frame_later, goes_grown, goes_by}
-use Rattle.jb_run.proofs.Stacks.{kinds_push, stack_push, top_known, top_found, two_on_top}
+use Rattle.jb_run.proofs.DefinitionLemmas.{extends_refl}
+use Rattle.jb_run.proofs.GrowthLemmas.{HasGrown, formed_grown, kinds_later, frame_later, goes_grown, goes_by}
+use Rattle.jb_run.proofs.StackLemmas.{kinds_push, stack_push, top_known, top_found, two_on_top}
 
 -- the encoder has grown by nothing
 pub grown_none : (shapes : Shapes) (encoder : Encoder) → IsFormed shapes encoder → HasGrown encoder encoder

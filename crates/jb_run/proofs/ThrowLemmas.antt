@@ -19,8 +19,8 @@ use Rattle.jb_run.specs.Stack.{below}
 use Rattle.jb_run.specs.Shown.{IsFrameOf}
 use Rattle.jb_run.specs.Encoder.{Came, Nothing, Here, Thrown, came_of, pending_at, raised_at, NoneWaits, Waits}
 use Rattle.jb_run.specs.Encoder.{NoneThrown, IsThrown, IsSo, Executes}
-use Rattle.jb_run.proofs.Defined.{extends_refl}
-use Rattle.jb_run.proofs.Stacks.{top_null}
+use Rattle.jb_run.proofs.DefinitionLemmas.{extends_refl}
+use Rattle.jb_run.proofs.StackLemmas.{top_null}
 use Rattle.jb_run.proofs.NumberLemmas.{taken_null}
 use Rattle.std.proofs.lemmas.Bool.{true≢false}
 

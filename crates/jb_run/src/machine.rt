@@ -259,7 +259,7 @@ pub fn start(alloc: Global, ints: &[i32]) -> Mem<State>
 
 /// Where the run of these ints raises a fault, and the kind. None where it raises none. The run ends: it has no more steps
 /// than the code has bytes.
-#[tactic(auto, using(crate::proofs::MachineRuns::run_ends))]
+#[tactic(auto, using(crate::proofs::MachineLemmas::run_ends))]
 pub fn violated(alloc: Global, code: &[u8], ints: &[i32]) -> Mem<Option<(u16, Kind)>>
     requires { length code.now ≤ 65535 }
     ensures violates { IfOk result (λ found. (pc : ℕ) (kind : Kind) → (found ≡ Some (pc, kind)) ↔ RunViolates code.now ints.now pc kind) }

@@ -1,7 +1,7 @@
 use Rattle.std.proofs.Common.{◌≡◌, map, ◌-◌}
 use Rattle.cf_class.specs.Walk.{many_at, attribute_at}
-use Rattle.cf_class.specs.Views.{attribute_of}
-use Rattle.cf_class.proofs.Loop.{with_front}
+use Rattle.cf_class.specs.Calls.Views.{attribute_of}
+use Rattle.cf_class.proofs.LoopLemmas.{with_front}
 use Rattle.cf_class.proofs.member.read_attribute_list.Given as goal
 
 abbrev pub invariant-loop : goal.invariant-loop

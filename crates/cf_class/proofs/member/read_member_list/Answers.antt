@@ -2,8 +2,8 @@ use Rattle.std.proofs.Common.{◌≡◌, ◌++◌, ◌∷◌, [], map}
 use Rattle.std.proofs.lemmas.Result.{err_from_is_err_and}
 use Rattle.std.proofs.lemmas.List.{map_push}
 use Rattle.cf_class.specs.Walk.{many_at, member_at}
-use Rattle.cf_class.specs.Views.{member_of}
-use Rattle.cf_class.proofs.Loop.{goes_on, ends, is_done}
+use Rattle.cf_class.specs.Calls.Views.{member_of}
+use Rattle.cf_class.proofs.LoopLemmas.{goes_on, ends, is_done}
 use Rattle.cf_class.proofs.member.read_member_list.Goals as goal
 
 pub returns-in_err-member : goal.returns-in_err-member

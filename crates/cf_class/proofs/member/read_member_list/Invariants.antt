@@ -1,7 +1,7 @@
 use Rattle.std.proofs.Common.{◌≡◌, map, ◌-◌}
 use Rattle.cf_class.specs.Walk.{many_at, member_at}
-use Rattle.cf_class.specs.Views.{member_of}
-use Rattle.cf_class.proofs.Loop.{with_front}
+use Rattle.cf_class.specs.Calls.Views.{member_of}
+use Rattle.cf_class.proofs.LoopLemmas.{with_front}
 use Rattle.cf_class.proofs.member.read_member_list.Given as goal
 
 abbrev pub invariant-loop : goal.invariant-loop

@@ -1,7 +1,7 @@
 use Rattle.std.proofs.Common.{◌≡◌, map, ◌-◌}
 use Rattle.cf_class.specs.Walk.{infos_at, indices_at}
-use Rattle.cf_class.specs.Views.{info_of}
-use Rattle.cf_class.proofs.Loop.{with_front}
+use Rattle.cf_class.specs.Calls.Views.{info_of}
+use Rattle.cf_class.proofs.LoopLemmas.{with_front}
 use Rattle.cf_class.proofs.pool.read_indices.Given as goal
 
 abbrev pub invariant-loop : goal.invariant-loop

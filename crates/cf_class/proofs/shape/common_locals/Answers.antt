@@ -1,5 +1,5 @@
 use Rattle.std.proofs.Common.{◌≡◌, ◌∙◌, arith, get_or, false, ◌&&◌}
-use Rattle.cf_class.specs.Passes.{both_known}
+use Rattle.cf_class.specs.Calls.Passes.{both_known}
 use Rattle.cf_class.proofs.ShapeLemmas.{both_more}
 use Rattle.cf_class.proofs.shape.common_locals.Goals as goal
 use Rattle.cf_class.proofs.shape.common_locals.Goals.{then-known, else-known}

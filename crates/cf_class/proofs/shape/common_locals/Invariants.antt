@@ -1,5 +1,5 @@
 use Rattle.std.proofs.Common.{◌≡◌, ◌++◌, drop}
-use Rattle.cf_class.specs.Passes.{both_known}
+use Rattle.cf_class.specs.Calls.Passes.{both_known}
 use Rattle.cf_class.proofs.shape.common_locals.Given as goal
 
 abbrev pub invariant-loop-i : goal.invariant-loop-i

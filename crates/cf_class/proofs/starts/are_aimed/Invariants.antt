@@ -1,5 +1,5 @@
 use Rattle.std.proofs.Common.{◌≡◌, ◌<◌, ℕ, Some, true, slice_get}
-use Rattle.cf_class.specs.Passes.{IsAimed}
+use Rattle.cf_class.specs.Calls.Passes.{IsAimed}
 use Rattle.cf_class.proofs.starts.are_aimed.Given as goal
 
 abbrev pub invariant-loop-pc : goal.invariant-loop-pc

@@ -1,7 +1,7 @@
 use Rattle.std.proofs.Common.{rules}
-use Rattle.cf_class.specs.Views.{member_of, class_file_of, code_of}
+use Rattle.cf_class.specs.Calls.Views.{member_of, class_file_of, code_of}
 use Rattle.cf_class.specs.Thin.{IsCodeOfMethod, IsCodeOfEntry}
-use Rattle.cf_class.proofs.Same.{Finds-same, of_method}
+use Rattle.cf_class.proofs.UniquenessLemmas.{Finds-same, of_method}
 use Rattle.cf_class.proofs.thin.code_of_entry.Goals as goal
 
 pub returns : goal.returns

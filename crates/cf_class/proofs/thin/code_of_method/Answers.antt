@@ -1,5 +1,5 @@
 use Rattle.std.proofs.Common.{rules}
-use Rattle.cf_class.specs.Views.{attribute_of}
+use Rattle.cf_class.specs.Calls.Views.{attribute_of}
 use Rattle.cf_class.proofs.thin.code_of_method.Goals as goal
 
 pub returns : goal.returns

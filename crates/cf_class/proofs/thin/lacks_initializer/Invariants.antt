@@ -1,5 +1,5 @@
 use Rattle.std.proofs.Common.{◌≡◌, [], map, take}
-use Rattle.cf_class.specs.Views.{info_of, member_of}
+use Rattle.cf_class.specs.Calls.Views.{info_of, member_of}
 use Rattle.cf_class.specs.Thin.{is_initializer}
 use Rattle.jv_list.proofs.OnlyLemmas.{passed}
 use Rattle.cf_class.proofs.thin.lacks_initializer.Given as goal

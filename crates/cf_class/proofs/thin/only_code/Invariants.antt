@@ -1,5 +1,5 @@
 use Rattle.std.proofs.Common.{map, take}
-use Rattle.cf_class.specs.Views.{info_of, attribute_of}
+use Rattle.cf_class.specs.Calls.Views.{info_of, attribute_of}
 use Rattle.cf_class.specs.Thin.{is_code}
 use Rattle.jv_list.proofs.OnlyLemmas.{Found}
 use Rattle.cf_class.proofs.thin.only_code.Given as goal

@@ -1,5 +1,5 @@
 use Rattle.std.proofs.Common.{map, take}
-use Rattle.cf_class.specs.Views.{info_of, member_of}
+use Rattle.cf_class.specs.Calls.Views.{info_of, member_of}
 use Rattle.cf_class.specs.Thin.{is_entry}
 use Rattle.jv_list.proofs.OnlyLemmas.{Found}
 use Rattle.cf_class.proofs.thin.only_method.Given as goal

@@ -1,5 +1,5 @@
 use Rattle.std.proofs.Common.{◌≡◌, ◌∙◌, length, true, refl, sym, subst, ℕ, arith}
-use Rattle.cf_class.specs.Passes.{IsSound}
+use Rattle.cf_class.specs.Calls.Passes.{IsSound}
 use Rattle.cf_class.proofs.EntryLemmas.{sound_entry, covers_entry, sound_all}
 use Rattle.jv_list.proofs.TestLemmas.{true_iff}
 use Rattle.cf_class.proofs.thin_code.has_shapes.Goals as goal

@@ -1,5 +1,5 @@
 use Rattle.cf_class.specs.ThinCode.{Shapes, MeetsRules}
-use Rattle.cf_class.specs.Passes.{IsSound, Covers}
+use Rattle.cf_class.specs.Calls.Passes.{IsSound, Covers}
 use Rattle.cf_class.proofs.thin_code.has_shapes.Given as goal
 
 abbrev pub invariant-loop-pc : goal.invariant-loop-pc

@@ -1,6 +1,6 @@
 use Rattle.std.proofs.Common.{length, arith}
 use Rattle.std.proofs.lemmas.Option.{MatchOption-at_none, MatchOption-at_some}
-use Rattle.cf_class.specs.Passes.{Differs, JoinsFound}
+use Rattle.cf_class.specs.Calls.Passes.{Differs, JoinsFound}
 use Rattle.cf_class.proofs.LeadLemmas.{shape_read, have_known, lead_refuses, lead_leads, lead_have}
 use Rattle.cf_class.proofs.thin_code.lead.Goals as goal
 

@@ -3,7 +3,7 @@ use Rattle.std.proofs.lemmas.Option.{MatchOption-at_none, MatchOption-at_some}
 use Rattle.std.proofs.lemmas.Result.{IfOk-weaker}
 use Rattle.cf_class.specs.declared.shape.Shape.{Shape}
 use Rattle.cf_class.specs.ThinCode.{Shapes, MeetsRules, Steps, target_of}
-use Rattle.cf_class.specs.Passes.{Covers, IsSound, FlowsTo, CannotFlow, fall_of}
+use Rattle.cf_class.specs.Calls.Passes.{Covers, IsSound, FlowsTo, CannotFlow, fall_of}
 use Rattle.cf_class.proofs.LeadLemmas.{shape_found}
 use Rattle.cf_class.proofs.VisitLemmas.{visit_locals, visit_sound, visit_steps, visit_instr, visit_covers}
 use Rattle.cf_class.proofs.VisitLemmas.{visit_refuses}

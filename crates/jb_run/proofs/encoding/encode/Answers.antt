@@ -1,6 +1,6 @@
 use Rattle.std.proofs.Common.{◌≡◌, List, length, map, Some, ap, refl, sym, subst, ◌∙◌, arith}
 use Rattle.jb_run.specs.declared.int_bits.IntBits.{IntBits}
-use Rattle.jb_run.proofs.Looping.{LoopsOn, loop_begins, loop_goes, loop_ends}
+use Rattle.jb_run.proofs.LoopLemmas.{LoopsOn, loop_begins, loop_goes, loop_ends}
 use Rattle.jb_run.proofs.encoding.encode.Goals as goal
 
 pub pcs-init : goal.pcs-init

@@ -1,5 +1,5 @@
 -- The instructions below the pc are encoded.
-use Rattle.jb_run.proofs.Looping.{LoopsOn}
+use Rattle.jb_run.proofs.LoopLemmas.{LoopsOn}
 use Rattle.jb_run.proofs.encoding.encode.Given as goal
 
 abbrev pub invariant-pcs : goal.invariant-pcs

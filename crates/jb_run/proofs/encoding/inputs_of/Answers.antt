@@ -1,7 +1,7 @@
 use Rattle.std.proofs.Common.{List, ◌+◌, subst, sym}
 use Rattle.jb_run.specs.declared.int_bits.IntBits.{IntBits}
 use Rattle.jb_run.specs.Encoder.{HasInputs}
-use Rattle.jb_run.proofs.Beginning.{no_input, one_input_more}
+use Rattle.jb_run.proofs.EntryLemmas.{no_input, one_input_more}
 use Rattle.jb_run.proofs.encoding.inputs_of.Goals as goal
 
 pub loop-init : goal.loop-init

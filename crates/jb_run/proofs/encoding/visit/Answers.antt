@@ -1,5 +1,5 @@
 use Rattle.std.proofs.Common.{sym, ◌∙◌}
-use Rattle.jb_run.proofs.Running.{encoded_some, never_missing}
+use Rattle.jb_run.proofs.RunLemmas.{encoded_some, never_missing}
 use Rattle.std.proofs.lemmas.Result.{on_ok_weaker}
 use Rattle.jb_run.proofs.encoding.visit.Goals as goal
 

@@ -1,7 +1,7 @@
 use Rattle.std.proofs.Common.{ap}
 use Rattle.jb_run.specs.declared.formula.Lit.{Lit}
 use Rattle.jb_run.specs.declared.gates.Bit.TheVariants.{Of}
-use Rattle.jb_run.proofs.Defined.{fresh_is}
+use Rattle.jb_run.proofs.DefinitionLemmas.{fresh_is}
 use Rattle.jb_run.proofs.gates.fresh.Goals as goal
 
 pub returns-clause-input : goal.returns-clause-input

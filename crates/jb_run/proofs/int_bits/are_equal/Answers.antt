@@ -1,5 +1,5 @@
-use Rattle.jb_run.proofs.IntBitsSteps.{equal_of}
-use Rattle.jb_run.proofs.IntBitsValues.{equal_found}
+use Rattle.jb_run.proofs.BitLemmas.{equal_of}
+use Rattle.jb_run.proofs.IntGateLemmas.{equal_found}
 use Rattle.jb_run.proofs.int_bits.are_equal.Goals as goal
 
 pub returns-clause-gate : goal.returns-clause-gate

@@ -1,6 +1,6 @@
 use Rattle.std.proofs.Common.{◌≡◌, arith}
-use Rattle.jb_run.proofs.IntBitsSteps.{zero_more, zero_all}
-use Rattle.jb_run.proofs.IntBitsValues.{zero_int}
+use Rattle.jb_run.proofs.BitLemmas.{zero_more, zero_all}
+use Rattle.jb_run.proofs.IntGateLemmas.{zero_int}
 use Rattle.jb_run.proofs.int_bits.is_zero.Goals as goal
 
 pub loop-index-preserved : goal.loop-index-preserved

@@ -1,5 +1,5 @@
 -- The bit so far tests the bits of the indexes so far.
-use Rattle.jb_run.proofs.IntBitsSteps.{ZeroSoFar}
+use Rattle.jb_run.proofs.BitLemmas.{ZeroSoFar}
 use Rattle.jb_run.proofs.int_bits.is_zero.Given as goal
 
 abbrev pub invariant-loop-index : goal.invariant-loop-index

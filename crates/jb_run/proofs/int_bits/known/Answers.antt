@@ -1,7 +1,7 @@
 use Rattle.std.proofs.Common.{ap, ◌∙◌}
 use Rattle.std.specs.Int.{cast_unsigned, w32}
 use Rattle.std.proofs.lemmas.Int.{to_z-of_z}
-use Rattle.jb_run.proofs.IntBitsInputs.{known_more, known_int, known_below}
+use Rattle.jb_run.proofs.FreshIntLemmas.{known_more, known_int, known_below}
 use Rattle.jb_run.proofs.int_bits.known.Goals as goal
 
 pub loop-i-preserved : goal.loop-i-preserved

@@ -1,9 +1,9 @@
 use Rattle.std.proofs.Common.{arith}
 use Rattle.jb_run.specs.Satisfies.{IsBitBelow}
 use Rattle.jb_run.specs.Gate.{AreIntsNamed, chosen, bit_at}
-use Rattle.jb_run.proofs.Defined.{bit_below_more}
-use Rattle.jb_run.proofs.IntBitsSteps.{bits_more, named_later}
-use Rattle.jb_run.proofs.IntBitsValues.{chosen_first, chosen_second}
+use Rattle.jb_run.proofs.DefinitionLemmas.{bit_below_more}
+use Rattle.jb_run.proofs.BitLemmas.{bits_more, named_later}
+use Rattle.jb_run.proofs.IntGateLemmas.{chosen_first, chosen_second}
 use Rattle.jb_run.proofs.int_bits.mux_ints.Goals as goal
 
 pub loop-i-preserved : goal.loop-i-preserved

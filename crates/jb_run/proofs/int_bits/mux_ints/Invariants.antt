@@ -1,7 +1,7 @@
 -- The bits so far are the gates of the indexes so far.
 use Rattle.jb_run.specs.Satisfies.{IsBitBelow}
 use Rattle.jb_run.specs.Gate.{AreIntsNamed, chosen, bit_at}
-use Rattle.jb_run.proofs.IntBitsSteps.{BitsSoFar}
+use Rattle.jb_run.proofs.BitLemmas.{BitsSoFar}
 use Rattle.jb_run.proofs.int_bits.mux_ints.Given as goal
 
 abbrev pub invariant-loop-i : goal.invariant-loop-i

@@ -1,5 +1,5 @@
 use Rattle.std.proofs.Common.{◌≡◌, refl, arith}
-use Rattle.jb_run.proofs.IntBitsInputs.{fresh_none, fresh_more, fresh_all}
+use Rattle.jb_run.proofs.FreshIntLemmas.{fresh_none, fresh_more, fresh_all}
 use Rattle.jb_run.proofs.int_bits.unknown.Goals as goal
 
 pub loop-i-init : goal.loop-i-init

@@ -1,7 +1,7 @@
 use Rattle.std.proofs.Common.{arith}
 use Rattle.jb_run.specs.Gate.{AreIntsNamed, different, bit_at}
-use Rattle.jb_run.proofs.IntBitsSteps.{bits_more, named_later}
-use Rattle.jb_run.proofs.IntBitsValues.{xor_int}
+use Rattle.jb_run.proofs.BitLemmas.{bits_more, named_later}
+use Rattle.jb_run.proofs.IntGateLemmas.{xor_int}
 use Rattle.jb_run.proofs.int_bits.xor_ints.Goals as goal
 
 pub loop-i-preserved : goal.loop-i-preserved

@@ -1,6 +1,6 @@
 -- The bits so far are the gates of the indexes so far.
 use Rattle.jb_run.specs.Gate.{AreIntsNamed, different, bit_at}
-use Rattle.jb_run.proofs.IntBitsSteps.{BitsSoFar}
+use Rattle.jb_run.proofs.BitLemmas.{BitsSoFar}
 use Rattle.jb_run.proofs.int_bits.xor_ints.Given as goal
 
 abbrev pub invariant-loop-i : goal.invariant-loop-i

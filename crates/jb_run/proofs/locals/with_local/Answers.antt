@@ -1,6 +1,6 @@
 use Rattle.std.proofs.Common.{◌∙◌, ap, arith}
 use Rattle.jb_run.specs.Locals.{with_room}
-use Rattle.jb_run.proofs.Rooms.{room_more}
+use Rattle.jb_run.proofs.RoomLemmas.{room_more}
 use Rattle.jb_run.proofs.locals.with_local.Goals as goal
 
 pub room-preserved : goal.room-preserved

@@ -1,5 +1,5 @@
 use Rattle.std.proofs.Common.{sym, rules}
-use Rattle.jb_run.proofs.MachineRuns.{step_some, step_none}
+use Rattle.jb_run.proofs.MachineLemmas.{step_some, step_none}
 use Rattle.jb_run.proofs.machine.step.Goals as goal
 
 pub returns-in-Some : goal.returns-in-Some

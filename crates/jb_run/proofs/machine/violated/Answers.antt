@@ -1,7 +1,8 @@
 use Rattle.std.proofs.Common.{suc, sym, ap, ◌∙◌, arith}
 use Rattle.jb_run.specs.Machine.{after}
-use Rattle.jb_run.proofs.MachineRuns.{after_none, after_more, step_rises, raised_is, ended_is, ended_stops, ended_quiet}
-use Rattle.jb_run.proofs.MachineRuns.{run_ends}
+use Rattle.jb_run.proofs.MachineLemmas.{after_none, after_more, step_rises, raised_is}
+use Rattle.jb_run.proofs.MachineLemmas.{ended_is, ended_stops, ended_quiet}
+use Rattle.jb_run.proofs.MachineLemmas.{run_ends}
 use Rattle.jb_run.proofs.machine.violated.Goals as goal
 
 pub run-init : goal.run-init

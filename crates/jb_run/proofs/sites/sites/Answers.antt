@@ -1,5 +1,5 @@
 use Rattle.std.proofs.Common.{sym, arith}
-use Rattle.jb_run.proofs.SitesSoFar.{so_far_none, so_far_more, so_far_all}
+use Rattle.jb_run.proofs.SiteLemmas.{so_far_none, so_far_more, so_far_all}
 use Rattle.jb_run.proofs.sites.sites.Goals as goal
 
 pub instrs-init : goal.instrs-init

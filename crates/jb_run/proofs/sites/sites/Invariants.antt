@@ -1,7 +1,7 @@
 -- The goals so far are those of the instructions so far, and an instruction begins at the place, or the code ends
 -- there.
 use Rattle.std.proofs.Common.{◌-◌, length}
-use Rattle.jb_run.proofs.SitesSoFar.{SoFar}
+use Rattle.jb_run.proofs.SiteLemmas.{SoFar}
 use Rattle.jb_run.proofs.sites.sites.Given as goal
 
 abbrev pub invariant-instrs : goal.invariant-instrs

@@ -4,7 +4,8 @@ use Rattle.std.proofs.Common.{◌∙◌}
 use Rattle.std.specs.Option.{is_some}
 use Rattle.jb_run.specs.declared.formula.Lit.{Lit}
 use Rattle.jb_run.specs.Solved.{known_lit}
-use Rattle.jb_run.proofs.Asking.{AreFalseBut, AreFalseBut-false, AreFalseBut-open, HoldsBy-true, split-in, take-in}
+use Rattle.jb_run.proofs.ClauseLemmas.{AreFalseBut, AreFalseBut-false, AreFalseBut-open}
+use Rattle.jb_run.proofs.ClauseLemmas.{HoldsBy-true, split-in, take-in}
 use Rattle.jb_run.proofs.solver.asked_by.Goals as goal
 use Rattle.jb_run.proofs.solver.asked_by.Goals.{in-Some-false, in-None-2}
 

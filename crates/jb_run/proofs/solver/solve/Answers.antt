@@ -1,7 +1,7 @@
 -- What the search finds is the answer.
 use Rattle.std.proofs.Common.{◌∙◌, false, map, unwrap_or, subst, ap}
 use Rattle.jb_run.specs.Solved.{IsBegun, IsExtended, NoneHolds, AllHoldBy}
-use Rattle.jb_run.proofs.Answering.{unsat-goal, unsat-clauses, sat-found}
+use Rattle.jb_run.proofs.AnswerLemmas.{unsat-goal, unsat-clauses, sat-found}
 use Rattle.jb_run.proofs.solver.solve.Goals as goal
 
 pub returns-then-not-branch : goal.returns-then-not-branch

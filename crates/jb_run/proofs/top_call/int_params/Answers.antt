@@ -1,5 +1,5 @@
 use Rattle.std.proofs.Common.{arith}
-use Rattle.jb_run.proofs.Deciding.{params_is}
+use Rattle.jb_run.proofs.VerdictLemmas.{params_is}
 use Rattle.jb_run.proofs.top_call.int_params.Goals as goal
 
 pub returns : goal.returns

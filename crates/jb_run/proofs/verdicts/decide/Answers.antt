@@ -5,7 +5,7 @@ use Rattle.jb_run.specs.declared.solver.Answer.TheVariants.{Sat, Unsat}
 use Rattle.jb_run.specs.declared.int_bits.IntBits.{IntBits}
 use Rattle.jb_run.specs.Shown.{ShowInts}
 use Rattle.jb_run.specs.Solved.{value_at, IsRight}
-use Rattle.jb_run.proofs.Deciding.{unsat_justified, sat_justified}
+use Rattle.jb_run.proofs.VerdictLemmas.{unsat_justified, sat_justified}
 use Rattle.jb_run.proofs.verdicts.decide.Goals as goal
 
 pub returns-in-Unsat : goal.returns-in-Unsat

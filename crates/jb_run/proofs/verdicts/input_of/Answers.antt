@@ -6,7 +6,7 @@ use Rattle.std.proofs.lemmas.List.{take_more}
 use Rattle.jv_base.specs.declared.input.Tree as tree
 use Rattle.jb_run.specs.Inputs.{int_of}
 use Rattle.jb_run.specs.Solved.{value_at}
-use Rattle.jb_run.proofs.InputValues.{args_more}
+use Rattle.jb_run.proofs.InputLemmas.{args_more}
 use Rattle.jb_run.proofs.verdicts.input_of.Goals as goal
 
 int_argument : (n : ℤ) → FitsSigned w32 n → int_of (tree.Int (cast_signed w32 (cast_unsigned w32 n))) ≡ Some n

@@ -1,4 +1,4 @@
-use Rattle.jb_run.proofs.LinesSoFar.{lines_more}
+use Rattle.jb_run.proofs.LineLemmas.{lines_more}
 use Rattle.jb_run.proofs.verdicts.lines_for.Goals as goal
 
 pub goals-preserved : goal.goals-preserved

@@ -3,7 +3,7 @@ use Rattle.std.proofs.lemmas.List.Elements.{All-weaker}
 use Rattle.jb_run.specs.Verdicts.{IsEncodingOf, IsVerdictBy, AreVerdictsBy}
 use Rattle.jb_run.specs.Justified.{IsJustifiedLine}
 use Rattle.jb_run.specs.declared.report.Line.{Line}
-use Rattle.jb_run.proofs.Deciding.{goes_on}
+use Rattle.jb_run.proofs.VerdictLemmas.{goes_on}
 use Rattle.jb_run.proofs.verdicts.verdicts.Goals as goal
 
 pub returns-clause-goes_on : goal.returns-clause-goes_on

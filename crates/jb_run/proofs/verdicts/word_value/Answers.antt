@@ -4,7 +4,7 @@ use Rattle.std.proofs.lemmas.Int.{to_z-of_z}
 use Rattle.std.proofs.lemmas.Nat.{one_shl}
 use Rattle.jb_run.specs.Solved.{value_at}
 use Rattle.jb_run.specs.Shown.{ShowsInt}
-use Rattle.jb_run.proofs.InputValues.{PatternSoFar, pattern_set, pattern_kept, pattern_shows}
+use Rattle.jb_run.proofs.InputLemmas.{PatternSoFar, pattern_set, pattern_kept, pattern_shows}
 use Rattle.jb_run.proofs.verdicts.word_value.Goals as goal
 use Rattle.jb_run.proofs.verdicts.word_value.Goals.{then-bit_value, else-bit_value}
 

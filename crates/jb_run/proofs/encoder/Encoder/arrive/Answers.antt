@@ -1,6 +1,6 @@
 -- The frame is put where the one that waits was taken.
 use Rattle.std.proofs.Common.{refl, ◌∙◌}
-use Rattle.jb_run.proofs.Arriving.{arrives_taken}
+use Rattle.jb_run.proofs.ArrivalLemmas.{arrives_taken}
 use Rattle.jb_run.proofs.encoder.Encoder.arrive.Goals as goal
 
 pub returns : goal.returns

@@ -1,7 +1,7 @@
 -- Two gates, and a frame that comes under each of them.
 use Rattle.std.proofs.Common.{refl}
 use Rattle.std.proofs.lemmas.Result.{on_ok_weaker}
-use Rattle.jb_run.proofs.Branching.{branches}
+use Rattle.jb_run.proofs.BranchLemmas.{branches}
 use Rattle.jb_run.proofs.encoder.Encoder.branch.Goals as goal
 
 pub returns : goal.returns

@@ -1,6 +1,6 @@
 use Rattle.std.proofs.lemmas.Result.{on_ok_weaker}
 use Rattle.jb_run.specs.Machine as machine
-use Rattle.jb_run.proofs.BranchingInts.{two_none, two_none_below, equal_goes}
+use Rattle.jb_run.proofs.IntBranchLemmas.{two_none, two_none_below, equal_goes}
 use Rattle.jb_run.proofs.encoder.Encoder.branch_on_equal.Goals as goal
 
 pub returns-in_default : goal.returns-in_default

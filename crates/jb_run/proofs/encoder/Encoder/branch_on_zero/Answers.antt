@@ -1,6 +1,6 @@
 use Rattle.std.proofs.lemmas.Result.{on_ok_weaker}
 use Rattle.jb_run.specs.Machine as machine
-use Rattle.jb_run.proofs.BranchingInts.{one_none, zero_goes}
+use Rattle.jb_run.proofs.IntBranchLemmas.{one_none, zero_goes}
 use Rattle.jb_run.proofs.encoder.Encoder.branch_on_zero.Goals as goal
 
 pub returns-in_default : goal.returns-in_default

@@ -1,8 +1,9 @@
 -- A split has two halves, and each has all of its assignments.
 use Rattle.std.proofs.Common.{◌≡◌, ◌+◌, true, false, length, ap, subst, ◌∙◌, arith}
 use Rattle.jb_run.specs.Solved.{Settles, IsExtended, IsExtendedBy, NoneHolds, unset_count}
-use Rattle.jb_run.proofs.Solving.{unset_count-set, Grows-assign, Grows-then, IsSame-undo, IsWithin-grows, IsWithin-set}
-use Rattle.jb_run.proofs.Passing.{IsExtended-settled, IsFoundBy-more, IsFoundBy-same, none-split, IsSame-more}
+use Rattle.jb_run.proofs.AssignmentLemmas.{unset_count-set, Grows-assign, Grows-then}
+use Rattle.jb_run.proofs.AssignmentLemmas.{IsSame-undo, IsWithin-grows, IsWithin-set}
+use Rattle.jb_run.proofs.PassLemmas.{IsExtended-settled, IsFoundBy-more, IsFoundBy-same, none-split, IsSame-more}
 use Rattle.jb_run.proofs.solver.Search.+split.Goals as goal
 
 pub extends-returns-in_default : goal.extends-returns-in_default

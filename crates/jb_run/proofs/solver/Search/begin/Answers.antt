@@ -1,5 +1,5 @@
 -- The goal's literal is given its value.
-use Rattle.jb_run.proofs.Solving.{Fixes-of}
+use Rattle.jb_run.proofs.AssignmentLemmas.{Fixes-of}
 use Rattle.jb_run.proofs.solver.Search.begin.Goals as goal
 
 pub returns-in_ok-assign-in-None : goal.returns-in_ok-assign-in-None

@@ -1,7 +1,7 @@
 -- What is found in a clause is joined to what was found before.
 use Rattle.std.proofs.Common.{◌+◌, [], ◌∷◌, take, drop, sym, subst}
 use Rattle.jb_run.specs.Solved.{Passes}
-use Rattle.jb_run.proofs.Passing.{Passes-none, Passes-still, Passes-changed, Passes-conflict}
+use Rattle.jb_run.proofs.PassLemmas.{Passes-none, Passes-still, Passes-changed, Passes-conflict}
 use Rattle.jb_run.proofs.solver.Search.pass.Goals as goal
 use Rattle.jb_run.proofs.solver.Search.pass.Goals.{in-Still, in-Changed}
 use Rattle.jv_list.proofs.PlaceLemmas.{split_with, take_with}

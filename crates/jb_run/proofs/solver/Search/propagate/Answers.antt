@@ -1,5 +1,5 @@
 -- Another pass adds values to those before.
-use Rattle.jb_run.proofs.Passing.{Adds-again, Settles-still, Settles-conflict}
+use Rattle.jb_run.proofs.PassLemmas.{Adds-again, Settles-still, Settles-conflict}
 use Rattle.jb_run.proofs.solver.Search.propagate.Goals as goal
 
 pub returns-in-Still : goal.returns-in-Still

@@ -1,7 +1,7 @@
 -- The last of the trail is taken back.
 use Rattle.std.proofs.Common.{◌≡◌, ◌≤◌, ◌∙◌, ◌++◌, ◌∷◌, [], length, take, drop, ap, sym, arith}
 use Rattle.jb_run.specs.Solved.{cleared}
-use Rattle.jb_run.proofs.Solving.{undo-one}
+use Rattle.jb_run.proofs.AssignmentLemmas.{undo-one}
 use Rattle.jb_run.proofs.solver.Search.undo.Goals as goal
 
 pub loop-self-preserved-in-Some : goal.loop-self-preserved-in-Some

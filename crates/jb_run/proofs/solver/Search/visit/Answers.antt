@@ -2,7 +2,7 @@
 use Rattle.std.proofs.Common.{subst}
 use Rattle.jb_run.specs.declared.solver.Asks.{Asks}
 use Rattle.jb_run.specs.Solved.{IsAsked}
-use Rattle.jb_run.proofs.Passing.{Passes-nothing, Passes-false, Passes-literal}
+use Rattle.jb_run.proofs.PassLemmas.{Passes-nothing, Passes-false, Passes-literal}
 use Rattle.jb_run.proofs.solver.Search.visit.Goals as goal
 
 pub returns-in-Nothing : goal.returns-in-Nothing

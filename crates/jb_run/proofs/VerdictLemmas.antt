@@ -16,8 +16,8 @@ use Rattle.jb_run.specs.Satisfies.{bit_value, Satisfies}
 use Rattle.jb_run.specs.Shown.{ShowInts}
 use Rattle.jb_run.specs.Solved.{value_at, IsRight}
 use Rattle.jb_run.specs.Violates.{HasInts, RunViolates, RunsGoOn}
-use Rattle.jb_run.proofs.InputValues.{ints_fit, ints_number}
-use Rattle.jb_run.proofs.IntsShown.{ints_once}
+use Rattle.jb_run.proofs.InputLemmas.{ints_fit, ints_number}
+use Rattle.jb_run.proofs.ShownIntLemmas.{ints_once}
 use Rattle.jv_list.proofs.ToldLemmas.{told_map}
 use Rattle.std.proofs.lemmas.Option.{same_Some}
 

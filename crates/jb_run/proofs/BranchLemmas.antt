@@ -13,9 +13,9 @@ use Rattle.jb_run.specs.Satisfies.{bit_value, Satisfies, IsBitBelow}
 use Rattle.jb_run.specs.Gate.{Extends, AreNamed, IsGate, both}
 use Rattle.jb_run.specs.Shown.{ShowsFrame, IsFrameOf}
 use Rattle.jb_run.specs.Encoder.{Came, Nothing, Here, IsSo, Goes, HasFrame, Arrives, Branches}
-use Rattle.jb_run.proofs.Defined.{bit_below_more, extends_then}
+use Rattle.jb_run.proofs.DefinitionLemmas.{bit_below_more, extends_then}
 use Rattle.jb_run.proofs.GateLemmas.{opposite_value, opposite_below}
-use Rattle.jb_run.proofs.Going.{frame_later, HasGrown, formed_grown, goes_grown}
+use Rattle.jb_run.proofs.GrowthLemmas.{frame_later, HasGrown, formed_grown, goes_grown}
 use Rattle.jv_list.proofs.TestLemmas.{and_on, and_off}
 
 -- the guards of the two ways: both false where the frame's guard is, and else one is true by the condition

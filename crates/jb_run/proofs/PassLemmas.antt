@@ -10,8 +10,9 @@ use Rattle.jb_run.specs.declared.solver.Search.{Search}
 use Rattle.jb_run.specs.Satisfies.{clause_holds}
 use Rattle.jb_run.specs.Solved.{AgreesWith, all_hold, HasUnset, IsAsked, unset_count, cleared, Grows, NoneHolds, Adds}
 use Rattle.jb_run.specs.Solved.{IsSettled, Passes, Settles, IsSame, IsWithin, IsFoundBy, IsExtended}
-use Rattle.jb_run.proofs.Solving.{AgreesWith-set, unset_count-set, true-value, Grows-same, Grows-more, Grows-assign}
-use Rattle.jb_run.proofs.Solving.{IsSame-undo, IsWithin-grows}
+use Rattle.jb_run.proofs.AssignmentLemmas.{AgreesWith-set, unset_count-set, true-value}
+use Rattle.jb_run.proofs.AssignmentLemmas.{Grows-same, Grows-more, Grows-assign}
+use Rattle.jb_run.proofs.AssignmentLemmas.{IsSame-undo, IsWithin-grows}
 use Rattle.std.proofs.lemmas.Bool.{and_parts, and_from, both_ways}
 
 all_hold-front : (a : ℕ → Bool) (xs ys all : List Clause) → all ≡ xs ++ ys → all_hold a all ≡ true

@@ -16,7 +16,7 @@ use Rattle.jb_run.specs.Gate.{bit_at, Extends}
 use Rattle.jb_run.specs.Encoder.{Came, Nothing, Here, Thrown, NoneWaits, Waits, NoneThrown, IsThrown, IsSo, IsFormed}
 use Rattle.jb_run.specs.Encoder.{Goes, pending_at, raised_at}
 use Rattle.jb_run.specs.Shown.{ShowsFrame, IsIntBelow, IsOfKind, AreOfKinds, IsFrameOf}
-use Rattle.jb_run.proofs.Defined.{bit_below_more, extends_then}
+use Rattle.jb_run.proofs.DefinitionLemmas.{bit_below_more, extends_then}
 
 pub word_later : (n m : ℕ) (word : IntBits) → n ≤ m → IsIntBelow n word → IsIntBelow m word
 word_later n m word le below k inside = bit_below_more n m (bit_at word k) le (below k inside)

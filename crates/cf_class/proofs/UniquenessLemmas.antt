@@ -7,7 +7,7 @@ use Rattle.cf_class.specs.declared.walk.Refusal.{Refusal}
 use Rattle.cf_class.specs.declared.walk.Refusal.TheVariants.{NoMemory, Malformed}
 use Rattle.cf_class.specs.declared.thin.ThinMethod.{ThinMethod}
 use Rattle.cf_class.specs.Walk.{CpInfo, AttributeInfo, MemberInfo, ClassFileInfo, CodeInfo, class_at, code_at}
-use Rattle.cf_class.specs.Finds.{Finds}
+use Rattle.cf_class.specs.Calls.Finds.{Finds}
 use Rattle.cf_class.specs.ThinCode.{ThinCode}
 use Rattle.cf_class.specs.Thin.{end_of, int_descriptor, IsCodeOfMethod, IsCodeOfEntry, Thin}
 use Rattle.jv_list.proofs.TestLemmas.{head_same, some_same}

@@ -5,7 +5,7 @@ use Rattle.std.proofs.lemmas.List.{append-nil}
 use Rattle.cf_class.specs.declared.walk.Refusal.{Refusal}
 use Rattle.cf_class.specs.declared.walk.Refusal.TheVariants.{NoMemory, Malformed}
 use Rattle.cf_class.specs.Walk.{◌>>=◌, many_at, CpInfo, is_wide, next_info_at, infos_at}
-use Rattle.cf_class.specs.Views.{Fails}
+use Rattle.cf_class.specs.Calls.Views.{Fails}
 
 -- what was read before, and what is still read
 abbrev pub with_front : {A : Type 0} → List A → Option (List A × List ℕ) → Option (List A × List ℕ)

@@ -23,8 +23,8 @@ use Rattle.jb_run.specs.Machine as machine
 use Rattle.jb_run.specs.Stack.{top, below}
 use Rattle.jb_run.specs.Shown.{ShowsInt, ShowsFrame, AreOfKinds, IsFrameOf}
 use Rattle.jb_run.specs.Encoder.{Came, Here, came_of, Goes, HasFrame, Branches, BranchesBy}
-use Rattle.jb_run.proofs.Going.{HasGrown, formed_grown, frame_later, goes_grown, goes_by}
-use Rattle.jb_run.proofs.Stacks.{IsTop, top_known, top_found, two_on_top}
+use Rattle.jb_run.proofs.GrowthLemmas.{HasGrown, formed_grown, frame_later, goes_grown, goes_by}
+use Rattle.jb_run.proofs.StackLemmas.{IsTop, top_known, top_found, two_on_top}
 
 -- the encoder whose formula grew
 abbrev grown_by : Encoder → Formula → Encoder

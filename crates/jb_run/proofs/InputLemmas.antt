@@ -14,7 +14,7 @@ use Rattle.jb_run.specs.declared.int_bits.IntBits.{IntBits}
 use Rattle.jb_run.specs.Gate.{bit_of}
 use Rattle.jb_run.specs.Inputs.{int_of, IsIntTree}
 use Rattle.jb_run.specs.Shown.{ShowsInt, ShowInts}
-use Rattle.jb_run.proofs.IntBitsValues.{number, bit_from}
+use Rattle.jb_run.proofs.IntGateLemmas.{number, bit_from}
 use Rattle.jv_list.proofs.BitLemmas.{set_same, set_other}
 use Rattle.std.proofs.lemmas.List.{map_push}
 

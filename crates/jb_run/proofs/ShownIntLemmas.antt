@@ -13,9 +13,9 @@ use Rattle.jb_run.specs.declared.int_bits.IntBits.{IntBits}
 use Rattle.jb_run.specs.Satisfies.{Agrees}
 use Rattle.jb_run.specs.Gate.{bit_at, bit_of}
 use Rattle.jb_run.specs.Shown.{ShowsInt, ShowInts, IsIntBelow, AreIntsBelow}
-use Rattle.jb_run.proofs.Defined.{bit_agree}
-use Rattle.jb_run.proofs.IntBitsInts.{ints_from_bits}
-use Rattle.jb_run.proofs.IntBitsValues.{number, bit_from}
+use Rattle.jb_run.proofs.DefinitionLemmas.{bit_agree}
+use Rattle.jb_run.proofs.IntLemmas.{ints_from_bits}
+use Rattle.jb_run.proofs.IntGateLemmas.{number, bit_from}
 
 number_below : (value : Bool) → number value ≤ 1
 number_below true = omega arith

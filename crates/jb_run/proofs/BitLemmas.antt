@@ -12,7 +12,7 @@ use Rattle.jb_run.specs.Bits.{opposite_bit}
 use Rattle.jb_run.specs.Satisfies.{bit_value, IsBitBelow}
 use Rattle.jb_run.specs.Gate.{Continues, Extends, Shows, IsGate, IsTest, IsIntGate, AreNamed, IsIntNamed, AreIntsNamed}
 use Rattle.jb_run.specs.Gate.{HasNoBit, HaveSameBits, bit_at, bit_of, both, differ, different}
-use Rattle.jb_run.proofs.Defined.{bit_below_more, extends_then, shows_later, continues_then}
+use Rattle.jb_run.proofs.DefinitionLemmas.{bit_below_more, extends_then, shows_later, continues_then}
 use Rattle.jb_run.proofs.GateLemmas.{opposite_value, opposite_below}
 
 -- the bits below an index show their values

@@ -32,10 +32,10 @@ use Rattle.jb_run.specs.Encoder.{Here, pending_at, raised_at, guard_of, IsFormed
 use Rattle.jb_run.specs.Encoder.{IsEncoded}
 use Rattle.jb_run.specs.Shown.{ShowsInt, ShowInts, ShowStack, ShowsFrame, IsIntBelow, AreIntsBelow, AreOfKinds}
 use Rattle.jb_run.specs.Shown.{IsFrameOf}
-use Rattle.jb_run.proofs.Going.{word_later}
-use Rattle.jb_run.proofs.IntsShown.{ints_agree}
-use Rattle.jb_run.proofs.MachineRuns.{after_none}
-use Rattle.jb_run.proofs.Pending.{pending_is}
+use Rattle.jb_run.proofs.GrowthLemmas.{word_later}
+use Rattle.jb_run.proofs.ShownIntLemmas.{ints_agree}
+use Rattle.jb_run.proofs.MachineLemmas.{after_none}
+use Rattle.jb_run.proofs.PendingLemmas.{pending_is}
 use Rattle.jb_run.proofs.ShapeLemmas.{shape_within}
 use Rattle.jv_list.proofs.CutLemmas.{split_last}
 use Rattle.jv_list.proofs.PlaceLemmas.{slice_get-two_runs}

@@ -11,7 +11,7 @@ use Rattle.jb_run.specs.declared.int_bits.IntBits.{IntBits}
 use Rattle.jb_run.specs.Clauses.{clauses_of}
 use Rattle.jb_run.specs.Satisfies.{bit_value, Satisfies, Agrees, IsBitBelow, AreClausesBelow}
 use Rattle.jb_run.specs.Gate.{Continues, IsExtension, IsFresh, IsFreshInt, HasInt, bit_at}
-use Rattle.jb_run.proofs.Defined.{bit_below_more, bit_agree, continues_then, extension_then}
+use Rattle.jb_run.proofs.DefinitionLemmas.{bit_below_more, bit_agree, continues_then, extension_then}
 use Rattle.jv_list.proofs.BitLemmas.{tests_bit}
 
 -- a known bit of a pattern

@@ -22,7 +22,7 @@ use Rattle.jb_run.specs.Shown.{ShowsFrame}
 use Rattle.jb_run.specs.Stack.{top, below}
 use Rattle.jb_run.specs.Encoder.{IsReady}
 use Rattle.jb_run.proofs.NumberLemmas.{taken_int, taken_ints, taken_null}
-use Rattle.jb_run.proofs.Stacks.{top_int, top_null}
+use Rattle.jb_run.proofs.StackLemmas.{top_int, top_null}
 
 -- the outcome is not that the machine is stuck
 record Goes_on (outcome : Outcome) : Type 0 where

@@ -10,8 +10,8 @@ use Rattle.jb_run.specs.declared.encoder.Encoder.{Encoder}
 use Rattle.jb_run.specs.declared.encoding.Encoding.{Encoding}
 use Rattle.jb_run.specs.Encoder.{Arrives, HasInputs, IsEncoded, Visits}
 use Rattle.jb_run.specs.Represents.{Represents}
-use Rattle.jb_run.proofs.Beginning.{IsBlank, IsFirst, begun}
-use Rattle.jb_run.proofs.Ending.{represents}
+use Rattle.jb_run.proofs.EntryLemmas.{IsBlank, IsFirst, begun}
+use Rattle.jb_run.proofs.EndLemmas.{represents}
 
 -- the instructions below a pc are encoded, wherever the code is thin for a method of so many parameters
 pub record LoopsOn (code : List ℕ) (params : ℕ) (inputs : List IntBits) (encoder : Encoder) (pc : ℕ) : Type 0 where

@@ -22,8 +22,8 @@ use Rattle.jb_run.specs.declared.machine.State.{State}
 use Rattle.jb_run.specs.declared.machine.Outcome.TheVariants.{Stuck}
 use Rattle.jb_run.specs.Machine.{step, after, start}
 use Rattle.jb_run.specs.Violates.{RunViolates, NeverStuck}
-use Rattle.jb_run.proofs.MachineRuns.{Stops, stops_once, raised_is, ended_is}
-use Rattle.jb_run.proofs.IntsShown.{ints_shown, ints_agree}
+use Rattle.jb_run.proofs.MachineLemmas.{Stops, stops_once, raised_is, ended_is}
+use Rattle.jb_run.proofs.ShownIntLemmas.{ints_shown, ints_agree}
 use Rattle.jb_run.proofs.ShapeLemmas.{shape_within}
 use Rattle.jv_list.proofs.TestLemmas.{false_iff}
 

@@ -25,11 +25,11 @@ use Rattle.jb_run.specs.Encoder.{Came, Nothing, Here, Thrown, came_of, pending_a
 use Rattle.jb_run.specs.Encoder.{Waits, NoneThrown, IsThrown, IsSo, IsFormed, Goes, IsReady, IsTaken, Executes, HasCome}
 use Rattle.jb_run.specs.Encoder.{IsEncoded}
 use Rattle.jb_run.specs.Shown.{ShowsFrame, IsFrameOf}
-use Rattle.jb_run.proofs.Defined.{extends_then}
-use Rattle.jb_run.proofs.MachineRuns.{step_some, after_more}
-use Rattle.jb_run.proofs.NeverStuck.{never_stuck}
-use Rattle.jb_run.proofs.Raising.{raises_null}
-use Rattle.jb_run.proofs.Pending.{put_here, put_elsewhere}
+use Rattle.jb_run.proofs.DefinitionLemmas.{extends_then}
+use Rattle.jb_run.proofs.MachineLemmas.{step_some, after_more}
+use Rattle.jb_run.proofs.StuckLemmas.{never_stuck}
+use Rattle.jb_run.proofs.RaiseLemmas.{raises_null}
+use Rattle.jb_run.proofs.PendingLemmas.{put_here, put_elsewhere}
 
 taken_here : (old new : Encoder) (pc : ℕ) → IsTaken old new pc → pending_at new.pending.items pc ≡ None
 taken_here old new pc taken = ap (λ (p : List (Option Frame)). pending_at p pc) taken.pending

@@ -18,8 +18,8 @@ use Rattle.jb_run.specs.Satisfies.{bit_value, Satisfies, IsBitBelow}
 use Rattle.jb_run.specs.Gate.{bit_at, bit_of, differ, different, chosen, HasInt, HasNoBit, HaveSameBits, AreIntsNamed}
 use Rattle.jb_run.specs.Gate.{IsTest}
 use Rattle.jb_run.specs.Shown.{ShowsInt}
-use Rattle.jb_run.proofs.IntBitsInts.{ints_from_bits, bits_from_int}
-use Rattle.jb_run.proofs.IntBitsSteps.{BitsSoFar}
+use Rattle.jb_run.proofs.IntLemmas.{ints_from_bits, bits_from_int}
+use Rattle.jb_run.proofs.BitLemmas.{BitsSoFar}
 use Rattle.jv_list.proofs.BitLemmas.{bit_is, pattern_below_32}
 
 -- a bit as a number

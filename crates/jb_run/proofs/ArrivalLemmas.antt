@@ -19,9 +19,9 @@ use Rattle.jb_run.specs.Gate.{Extends}
 use Rattle.jb_run.specs.Shown.{ShowsFrame, AreOfKinds, IsFrameOf}
 use Rattle.jb_run.specs.Encoder.{Came, Nothing, Here, Thrown, Waits, NoneThrown, IsThrown, IsSo, IsFormed, Goes}
 use Rattle.jb_run.specs.Encoder.{HasFrame, Meets, Arrives, guard_of, pending_at, raised_at}
-use Rattle.jb_run.proofs.Defined.{bit_below_more, extends_refl}
-use Rattle.jb_run.proofs.Going.{frame_later}
-use Rattle.jb_run.proofs.Pending.{put_here, put_elsewhere}
+use Rattle.jb_run.proofs.DefinitionLemmas.{bit_below_more, extends_refl}
+use Rattle.jb_run.proofs.GrowthLemmas.{frame_later}
+use Rattle.jb_run.proofs.PendingLemmas.{put_here, put_elsewhere}
 use Rattle.std.proofs.lemmas.List.{set-set}
 
 -- the frame of a shape is one of a weaker shape

@@ -6,7 +6,7 @@ use Rattle.std.proofs.lemmas.List.Folds.{list_any-append}
 use Rattle.jb_run.specs.declared.formula.Lit.{Lit}
 use Rattle.jb_run.specs.Satisfies.{lit_value, clause_holds}
 use Rattle.jb_run.specs.Solved.{known_at, known_lit, AgreesWith, HoldsBy, FailsBy, IsLiteral}
-use Rattle.jb_run.proofs.Solving.{lit_value-known, unsigned}
+use Rattle.jb_run.proofs.AssignmentLemmas.{lit_value-known, unsigned}
 use Rattle.std.proofs.Math.Bool.{or-false}
 use Rattle.std.proofs.lemmas.Bool.{or_right}
 
