@@ -280,103 +280,115 @@ pub fn violated(alloc: Global, code: &[u8], ints: &[i32]) -> Mem<Option<(u16, Ki
 #[cfg(test)]
 mod tests {
     use super::*;
+    use crate::random_runs::RANDOM;
+    use std::process::Abort;
     use std::test::Fail;
 
-    /// Code, ints for its first locals, and where the run throws null.
-    type Case = (&'static [u8], &'static [i32], Option<u16>);
-
-    // A throw where two ints are equal.
-    const EQUAL_INTS: &[u8] = &[0x1a, 0x1b, 0xa0, 0x00, 0x05, 0x01, 0xbf, 0xb1];
-
-    // A throw where an int differs from itself.
-    const XOR_SELF: &[u8] = &[0x1a, 0x1a, 0x82, 0x99, 0x00, 0x05, 0x01, 0xbf, 0xb1];
-
-    // javac of `if (a == b) { if (c == 0) throw null; }`.
-    const NESTED: &[u8] = &[
-        0x1a, 0x1b, 0xa0, 0x00, 0x09, 0x1c, 0x9a, 0x00, 0x05, 0x01, 0xbf, 0xb1,
-    ];
-
-    // javac of `int c = a ^ b; if (c != 300) return c; throw null;`.
-    const DIFFERENCE: &[u8] = &[
-        0x1a, 0x1b, 0x82, 0x3d, 0x1c, 0x11, 0x01, 0x2c, 0x9f, 0x00, 0x05, 0x1c, 0xac, 0x01, 0xbf,
-    ];
-
-    // javac of `int t = a ^ -32768; if (t == 0) throw null; return t;`.
-    const SIGNED_SHORT: &[u8] = &[
-        0x1a, 0x11, 0x80, 0x00, 0x82, 0x3c, 0x1b, 0x9a, 0x00, 0x05, 0x01, 0xbf, 0x1b, 0xac,
-    ];
-
-    // javac of `if (a == 5) throw null; if (b != 1000) return; throw null;`.
-    const TWO_THROWS: &[u8] = &[
-        0x1a, 0x08, 0xa0, 0x00, 0x05, 0x01, 0xbf, 0x1b, 0x11, 0x03, 0xe8, 0x9f, 0x00, 0x04, 0xb1,
-        0x01, 0xbf,
-    ];
-
-    // javac of `int y; if (a == b) y = c; else y = d; int z = y ^ x; if (z == -1) throw null; return z;`.
-    const MANY_LOCALS: &[u8] = &[
-        0x1a, 0x1b, 0xa0, 0x00, 0x09, 0x1c, 0x36, 0x05, 0xa7, 0x00, 0x06, 0x1d, 0x36, 0x05, 0x15,
-        0x05, 0x15, 0x04, 0x82, 0x36, 0x06, 0x15, 0x06, 0x02, 0xa0, 0x00, 0x05, 0x01, 0xbf, 0x15,
-        0x06, 0xac,
-    ];
-
-    // What the JVM answers for these methods.
-    const METHODS: [Case; 24] = [
-        (EQUAL_INTS, &[7, 7], Some(6)),
-        (EQUAL_INTS, &[7, 1], None),
-        (XOR_SELF, &[7], None),
-        (XOR_SELF, &[-2147483648], None),
-        (NESTED, &[3, 3, 0], Some(10)),
-        (NESTED, &[3, 3, 1], None),
-        (NESTED, &[3, 4, 0], None),
-        (DIFFERENCE, &[2147483647, 2147483347], Some(14)),
-        (DIFFERENCE, &[-1, -301], Some(14)),
-        (DIFFERENCE, &[301, 1], Some(14)),
-        (DIFFERENCE, &[300, 300], None),
-        (DIFFERENCE, &[1, 300], None),
-        (SIGNED_SHORT, &[-32768], Some(11)),
-        (SIGNED_SHORT, &[32768], None),
-        (SIGNED_SHORT, &[0], None),
-        (TWO_THROWS, &[5, 1000], Some(6)),
-        (TWO_THROWS, &[5, 0], Some(6)),
-        (TWO_THROWS, &[4, 1000], Some(16)),
-        (TWO_THROWS, &[4, 1001], None),
-        (MANY_LOCALS, &[1, 1, -2147483648, 9, 2147483647], Some(28)),
-        (MANY_LOCALS, &[1, 2, -2147483648, 9, 2147483647], None),
-        (MANY_LOCALS, &[1, 2, 3, -10, 9], Some(28)),
-        (MANY_LOCALS, &[2, 2, 3, -10, 9], None),
-        (MANY_LOCALS, &[0, 0, 0, 0, -1], Some(28)),
-    ];
+    // What the JVM answers for these methods: a line `code` with the bytes of one, and under it a row for each run, with the
+    // ints for its first locals, and the pc where it throws null, or `-`.
+    const METHODS: &str = "
+        // A throw where two ints are equal.
+        code 1a1ba0000501bfb1
+        7 7 | 6
+        7 1 | -
+        // A throw where an int differs from itself.
+        code 1a1a8299000501bfb1
+        7 | -
+        -2147483648 | -
+        // javac of `if (a == b) { if (c == 0) throw null; }`.
+        code 1a1ba000091c9a000501bfb1
+        3 3 0 | 10
+        3 3 1 | -
+        3 4 0 | -
+        // javac of `int c = a ^ b; if (c != 300) return c; throw null;`.
+        code 1a1b823d1c11012c9f00051cac01bf
+        2147483647 2147483347 | 14
+        -1 -301 | 14
+        301 1 | 14
+        300 300 | -
+        1 300 | -
+        // javac of `int t = a ^ -32768; if (t == 0) throw null; return t;`.
+        code 1a118000823c1b9a000501bf1bac
+        -32768 | 11
+        32768 | -
+        0 | -
+        // javac of `if (a == 5) throw null; if (b != 1000) return; throw null;`.
+        code 1a08a0000501bf1b1103e89f0004b101bf
+        5 1000 | 6
+        5 0 | 6
+        4 1000 | 16
+        4 1001 | -
+        // javac of `int y; if (a == b) y = c; else y = d; int z = y ^ x; if (z == -1) throw null; return z;`.
+        code 1a1ba000091c3605a700061d360515051504823606150602a0000501bf1506ac
+        1 1 -2147483648 9 2147483647 | 28
+        1 2 -2147483648 9 2147483647 | -
+        1 2 3 -10 9 | 28
+        2 2 3 -10 9 | -
+        0 0 0 0 -1 | 28
+    ";
 
     // Code with no next instruction, or whose instruction does not find what it needs; and code past such places.
-    const ROUGH: [Case; 10] = [
-        (&[], &[], None),
-        (&[0x60], &[], None),
-        (&[0x1a, 0xac], &[], None),
-        (&[0x01, 0x99, 0x00, 0x04, 0x01, 0xbf], &[], None),
-        (&[0x82], &[], None),
-        (&[0xbf], &[], None),
-        (&[0x04, 0xbf], &[], None),
-        (&[0xa7, 0x00, 0x04, 0x00, 0x01, 0xbf], &[], Some(5)),
-        (&[0x04, 0x3e, 0x01, 0xbf], &[], Some(3)),
-        (&[0x04, 0x3e, 0x1c, 0x01, 0xbf], &[], None),
-    ];
+    const ROUGH: &str = "
+        code
+        | -
+        code 60
+        | -
+        code 1aac
+        | -
+        code 0199000401bf
+        | -
+        code 82
+        | -
+        code bf
+        | -
+        code 04bf
+        | -
+        code a700040001bf
+        | 5
+        code 043e01bf
+        | 3
+        code 043e1c01bf
+        | -
+    ";
 
-    #[test]
-    fn answers_as_the_jvm(rt: HostRuntime) -> Result<(), Fail> {
-        for (code, ints, raises) in &METHODS {
-            assert!(rt; code.len() <= 65535);
-            let found = violated(rt.alloc(), code, ints)?;
-            assert_eq!(rt; found, raises.map(|pc| (pc, Kind::Null)));
+    // One run of code, against its row.
+    fn check<R: Abort + AllocGlobal>(
+        rt: &R,
+        code: &[u8],
+        ints: &str,
+        pc: &str,
+    ) -> Result<(), Fail> {
+        let mut numbers = Vec::new(rt.alloc());
+        for word in ints.split_whitespace() {
+            numbers.push(word.parse::<i32>()?)?;
         }
+        assert!(rt; code.len() <= 65535);
+        let found = match violated(rt.alloc(), code, numbers.as_slice())? {
+            Some((pc, Kind::Null)) => format!(in rt.alloc(); "{pc}")?,
+            other => format!(in rt.alloc();
+                "{}",
+                if other.is_none() { "-" } else { "another kind" }
+            )?,
+        };
+        assert!(rt; found.as_str() == pc, "{code:?} {ints}");
         Ok(())
     }
 
     #[test]
-    fn gets_stuck(rt: HostRuntime) -> Result<(), Fail> {
-        for (code, ints, raises) in &ROUGH {
-            assert!(rt; code.len() <= 65535);
-            let found = violated(rt.alloc(), code, ints)?;
-            assert_eq!(rt; found, raises.map(|pc| (pc, Kind::Null)));
+    fn answers_as_the_jvm(rt: HostRuntime) -> Result<(), Fail> {
+        let mut code = Vec::new(rt.alloc());
+        for line in [METHODS, ROUGH, RANDOM]
+            .iter()
+            .flat_map(|table| table.lines())
+        {
+            let row = line.trim();
+            if let Some(digits) = row.strip_prefix("code") {
+                code = hex::decode(rt.alloc(), digits.trim())?;
+            } else if let Some(digits) = row.strip_prefix("also") {
+                code.extend_from_slice(hex::decode(rt.alloc(), digits.trim())?.as_slice())?;
+            } else if let Some((ints, pc)) = row.split_once('|') {
+                check(&rt, code.as_slice(), ints, pc.trim())?;
+            }
         }
         Ok(())
     }
