@@ -1,6 +1,10 @@
 // Names, and the order of names and of assertions.
 use crate::sites::goal;
-use jv_base::{Kind, MethodId, Name, TryCopy, compare_goals};
+use crate::tables::{rows, two_of};
+use jv_base::{
+    Kind, MethodId, Name, TryCopy, compare_goals, forms_decided, is_any_method_name, is_class_name,
+    is_field_descriptor, is_method_descriptor,
+};
 use std::cmp::Ordering;
 use std::process::Abort;
 
@@ -91,5 +95,43 @@ fn assertions_are_in_the_order_of_the_report(rt: HostRuntime) {
         assert!(rt; compare_goals(&low, &high) == Ordering::Less);
         assert!(rt; compare_goals(&high, &low) == Ordering::Greater);
         assert!(rt; compare_goals(&low, &low) == Ordering::Equal);
+    }
+}
+
+// A text, and what it can be: the name of a class or of a method, the descriptor of a field or of a method.
+const FORMS: &str = r"
+    | nothing
+    a/é/C | class
+    a//b | nothing
+    /a | nothing
+    a.b | nothing
+    f | class method
+    a<b | class
+    <init> | class method
+    <clinit> | class method
+    <cinit> | class
+    I | class method field
+    V | class method
+    [I | field
+    [[La/b; | field
+    L; | nothing
+    [V | nothing
+    ()V | class method descriptor
+    (I | class method
+    ([I)[J | descriptor
+    ([ILa/b;)V | descriptor
+    ()[V | nothing
+";
+
+#[test]
+fn a_text_has_its_forms(rt: HostRuntime) {
+    forms_decided();
+    for row in &rows(&rt, FORMS) {
+        let (text, forms) = two_of(&rt, row);
+        let has = |form: &str| forms.split(' ').any(|word| word == form);
+        assert!(rt; is_class_name(text) == has("class"), "{row}");
+        assert!(rt; is_any_method_name(text) == has("method"), "{row}");
+        assert!(rt; is_field_descriptor(text) == has("field"), "{row}");
+        assert!(rt; is_method_descriptor(text) == has("descriptor"), "{row}");
     }
 }

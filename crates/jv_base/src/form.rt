@@ -1,6 +1,8 @@
 // The forms of names and descriptors, character by character.
 ghost use Rattle.std.specs.Prelude.{◌≡◌, ◌↔◌, IsTrue};
-ghost use Rattle.jv_base.specs.Descriptor.{is_base_letter};
+ghost use Rattle.jv_base.specs.Names.{IsClassName};
+ghost use Rattle.jv_base.specs.Entry.{IsAnyMethodName};
+ghost use Rattle.jv_base.specs.Descriptor.{is_base_letter, IsFieldDescriptor, IsMethodDescriptor};
 ghost use Rattle.jv_base.specs.Forms.{IsOfForm};
 ghost use Rattle.jv_base.specs.Calls.Progress.{is_name_character, class_step, method_step, parameters_step, field_step, named_step, step, start_of, takes_names, is_whole};
 
@@ -162,4 +164,32 @@ pub(crate) fn is_of_form(form: Form, text: &[u8]) -> bool
         progress = next;
     }
     is_whole(progress)
+}
+
+/// Whether a text is the name of a class (JVM Specification SE 8, 4.2.1).
+pub fn is_class_name(text: &str) -> bool
+    ensures { IsTrue result ↔ IsClassName text.now }
+{
+    is_of_form(Form::ClassName, text.as_bytes())
+}
+
+/// Whether a text is the name of a method, which may be `<init>` or `<clinit>` (JVM Specification SE 8, 4.2.2 and 2.9).
+pub fn is_any_method_name(text: &str) -> bool
+    ensures { IsTrue result ↔ IsAnyMethodName text.now }
+{
+    text == "<init>" || text == "<clinit>" || is_of_form(Form::MethodName, text.as_bytes())
+}
+
+/// Whether a text is the descriptor of a field (JVM Specification SE 8, 4.3.2).
+pub fn is_field_descriptor(text: &str) -> bool
+    ensures { IsTrue result ↔ IsFieldDescriptor text.now }
+{
+    is_of_form(Form::FieldDescriptor, text.as_bytes())
+}
+
+/// Whether a text is the descriptor of a method (JVM Specification SE 8, 4.3.3).
+pub fn is_method_descriptor(text: &str) -> bool
+    ensures { IsTrue result ↔ IsMethodDescriptor text.now }
+{
+    is_of_form(Form::MethodDescriptor, text.as_bytes())
 }

@@ -1,5 +1,5 @@
 // Laws of the definitions, each the contract of a function that does nothing.
-ghost use Rattle.jv_base.specs.Laws.{OneFieldType, OneDescriptor, OneEntry, OneSite, GoalOrder};
+ghost use Rattle.jv_base.specs.Laws.{FormsDecided, OneFieldType, OneDescriptor, OneEntry, OneSite, GoalOrder};
 
 /// No two field types have one text, so what `read_field_type` gives is the one with this text.
 pub fn one_field_type()
@@ -25,4 +25,9 @@ pub fn one_site()
 /// equal are only the same.
 pub fn goal_order()
     ensures { GoalOrder }
+{}
+
+/// Each text has a form, or has it not: the grammars of names and descriptors are decidable.
+pub fn forms_decided()
+    ensures { FormsDecided }
 {}
