@@ -1,5 +1,5 @@
-//! Tests of the public calls of the lower layer: lists, names and their texts, folders and sinks, constant pools,
-//! instructions and code, and thin methods of class files. What they expect comes from the Java Virtual Machine
+//! Tests of the public calls of the lower layer: lists, names and their texts, folders and sinks, constant pools and the
+//! structure of class files, instructions and code, and thin methods. What they expect comes from the Java Virtual Machine
 //! Specification and from javac and javap.
 #![tactic(auto)]
 
@@ -25,6 +25,8 @@ mod pools;
 mod sinks;
 #[cfg(test)]
 mod sites;
+#[cfg(test)]
+mod structures;
 #[cfg(test)]
 mod tables;
 #[cfg(test)]

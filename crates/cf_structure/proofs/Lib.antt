@@ -1,0 +1,8 @@
+pub mod LoopLemmas
+pub mod ReadLemmas
+pub mod CodeLemmas
+pub mod AttributeLemmas
+pub mod ClassLemmas
+pub mod FileLemmas
+pub mod StructureLemmas
+mod StandardFacts

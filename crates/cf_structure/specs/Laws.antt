@@ -1,0 +1,16 @@
+-- What holds of the definitions: exactly one of structure and fault stands for each file, and a file with a structure is
+-- its spelling.
+use Rattle.std.specs.Prelude.{◌≡◌, ◌↔◌, ℕ, List}
+use Rattle.cf_pool.specs.Laws.{ExactlyOne, IsBytes}
+use Rattle.cf_structure.specs.Raw.{RawFile}
+use Rattle.cf_structure.specs.Spelled.{file_text, FitsFile}
+use Rattle.cf_structure.specs.ClassFile.{IsStructure, IsStructureFault}
+
+-- a file has a structure, or its first fault
+abbrev pub OneStructure : Type 0
+OneStructure = (bytes : List ℕ) → IsBytes bytes → ExactlyOne (IsStructure bytes) (IsStructureFault bytes)
+
+-- bytes have a structure just where they are its spelling, and each part of it fits its field
+abbrev pub Spelled : Type 0
+Spelled = (bytes : List ℕ) (file : RawFile) → IsBytes bytes
+    → IsStructure bytes file ↔ (FitsFile file × (bytes ≡ file_text file))

@@ -1,0 +1,16 @@
+// Laws of the definitions.
+ghost use Rattle.cf_structure.specs.Laws.{OneStructure, Spelled};
+
+use cf_pool::one_pool;
+
+/// A file has one structure, or one first fault, and not both.
+pub fn one_structure()
+    ensures { OneStructure }
+{
+    one_pool();
+}
+
+/// A file has a structure just where it is the spelling of it.
+pub fn spelled()
+    ensures { Spelled }
+{}
