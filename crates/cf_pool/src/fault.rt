@@ -57,11 +57,18 @@ pub struct Fault {
     pub what: What,
 }
 
+/// `PLACE: WHAT`, as in `16: BadUtf8`.
+impl fmt::Display for Fault {
+    fn fmt<W: fmt::Write>(&self, f: &mut fmt::Formatter<W>) -> fmt::Result {
+        write!(f, "{}: {:?}", self.place, self.what)
+    }
+}
+
 /// Why bytes were not read.
 #[derive(Clone, Copy, Debug, PartialEq, Eq, Error)]
 pub enum PoolFault {
     /// The bytes are outside the grammar. This is their first fault from the left.
-    #[error("malformed")]
+    #[error("malformed at {0}")]
     Malformed(Fault),
     /// Memory ran out. Nothing is known of the bytes.
     #[error("no memory")]

@@ -57,7 +57,7 @@ impl Stop {
 #[derive(Clone, Copy, Debug, PartialEq, Eq, Error)]
 pub enum ClassFault {
     /// The bytes are outside the format. This is their first fault.
-    #[error("malformed")]
+    #[error("malformed at {0}")]
     Malformed(Fault),
     /// Memory ran out. Nothing is known of the bytes.
     #[error("no memory")]

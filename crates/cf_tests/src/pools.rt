@@ -216,5 +216,7 @@ fn faults_of_pools_are_printed(rt: HostRuntime) {
         place: 8,
         what: What::Truncated,
     });
-    assert!(rt; format!(in alloc; "{fault}").expect(&rt, "memory").as_str() == "malformed");
+    assert!(rt;
+        format!(in alloc; "{fault}").expect(&rt, "memory").as_str() == "malformed at 8: Truncated"
+    );
 }

@@ -1,7 +1,9 @@
 // The text forms of sites: as they are written, and other texts, with the place where each leaves the grammar.
 use crate::names::method;
 use crate::tables::{number_of, rows, three_of, two_of};
-use jv_base::{Goal, Kind, Name, Site, TextFault, goal_order, one_site, read_site, site_text};
+use jv_base::{
+    Goal, Kind, Name, Site, TextFault, goal_order, kind_text, one_site, read_site, site_text,
+};
 use std::process::Abort;
 
 /// The kinds of assertions, in the order of the report.
@@ -50,6 +52,7 @@ fn text_of<R: Abort + AllocGlobal>(rt: &R, kind: &str, pc: u16) -> Name {
         if format!(in alloc; "{each:?}").expect(rt, "memory").as_str() == kind {
             let goal = goal(rt, "T", "<init>", pc, each);
             text = site_text(alloc, &goal).expect(rt, "memory");
+            assert!(rt; text.as_str().ends_with(kind_text(each)));
         }
     }
     text

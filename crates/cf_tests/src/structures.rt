@@ -183,7 +183,7 @@ fn a_class_file_out_of_form_has_its_first_fault(rt: HostRuntime) {
                 place: 0,
                 what: What::Extra,
             }),
-            "malformed",
+            "malformed at 0: Extra",
         ),
     ] {
         let shown = format!(in alloc; "{fault}").expect(&rt, "memory");

@@ -28,6 +28,6 @@ pub use name::Name;
 pub use order::compare_goals;
 pub use reading::read_entry;
 pub use site::read_site;
-pub use spelling::{entry_text, push_name_text, site_text};
+pub use spelling::{entry_text, kind_text, push_name_text, site_text};
 pub use types::{read_descriptor, read_field_type};
 pub use value::{Desc, Ty, Value};

@@ -94,7 +94,8 @@ pub fn entry_text(alloc: Global, method: &MethodId) -> Mem<Name>
     Ok(Name::from_string(out))
 }
 
-fn kind_text(kind: Kind) -> &'static str
+/// The word of a kind in the text form of a site.
+pub fn kind_text(kind: Kind) -> &'static str
     ensures { result.now ≡ kind_name kind }
 {
     match kind {
