@@ -3,8 +3,11 @@
 
 mod choice;
 mod order;
+mod places;
+mod product;
 mod sum;
 
 pub use choice::choose;
 pub use order::{below, less};
+pub use product::mul;
 pub use sum::{add, sub};

@@ -1,6 +1,6 @@
 // Each call over words of fresh variables, at given numbers, against numbers.
 use crate::extension::{extended, value_of};
-use bb_arith::{add, below, choose, less, sub};
+use bb_arith::{add, below, choose, less, mul, sub};
 use cn_clauses::{Assignment, Formula, Lit};
 use jv_list::List;
 use std::process::Abort;
@@ -12,16 +12,18 @@ enum Call {
     Add,
     Sub,
     Choose,
+    Mul,
 }
 
 // A call, and the variables and clauses that it adds over free operands at W 8, 16, 32 and 64.
 #[rattlefmt::skip]
-const CALLS: [(Call, [(usize, usize); 4]); 5] = [
+const CALLS: [(Call, [(usize, usize); 4]); 6] = [
     (Call::Below, [(9, 46), (17, 94), (33, 190), (65, 382)]),
     (Call::Less, [(9, 46), (17, 94), (33, 190), (65, 382)]),
     (Call::Add, [(16, 100), (32, 212), (64, 436), (128, 884)]),
     (Call::Sub, [(16, 100), (32, 212), (64, 436), (128, 884)]),
     (Call::Choose, [(8, 32), (16, 64), (32, 128), (64, 256)]),
+    (Call::Mul, [(86, 413), (362, 1897), (1490, 8129), (6050, 33649)]),
 ];
 
 /// The number whose lowest bits are ones, as many as the width.
@@ -43,6 +45,7 @@ fn expected(call: Call, width: usize, x: u64, y: u64) -> u64 {
         Call::Add => x.wrapping_add(y) & ones,
         Call::Sub => x.wrapping_sub(y) & ones,
         Call::Choose => x.max(y),
+        Call::Mul => x.wrapping_mul(y) & ones,
     }
 }
 
@@ -78,6 +81,7 @@ fn make<R: Abort + AllocGlobal, const W: usize>(rt: &R, call: Call, word: &[Lit;
         Call::Less => lits.add(less(alloc, &mut formula, &a, &b).expect(rt, "memory")),
         Call::Add => lits.extend(&add(alloc, &mut formula, &a, &b).expect(rt, "memory")),
         Call::Sub => lits.extend(&sub(alloc, &mut formula, &a, &b).expect(rt, "memory")),
+        Call::Mul => lits.extend(&mul(alloc, &mut formula, &a, &b).expect(rt, "memory")),
         Call::Choose => {
             lits.extend(&choose(alloc, &mut formula, choice, &a, &b).expect(rt, "memory"))
         }
@@ -139,7 +143,7 @@ fn all_agree<R: Abort + AllocGlobal, const W: usize>(rt: &R, word: &[Lit; W]) {
 fn short_words_agree_with_all_numbers(rt: HostRuntime) {
     all_agree(&rt, &[Lit(0); 1]);
     all_agree(&rt, &[Lit(0); 2]);
-    all_agree(&rt, &[Lit(0); 4]);
+    all_agree(&rt, &[Lit(0); 8]);
 }
 
 /// Numbers of so many bits: the least and the greatest ones, with a sign and without, and some drawn at random.

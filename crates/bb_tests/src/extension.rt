@@ -20,18 +20,17 @@ fn reach(clause: &Clause) -> usize {
     reach
 }
 
-// Whether the clause holds, where a variable without a value has the next one's.
-fn holds_with(clause: &Clause, values: &List<bool>, next: bool) -> bool {
+// The value that the clause wants of the variable behind those with values, where it does not hold by these.
+fn wanted(clause: &Clause, values: &List<bool>) -> Option<bool> {
+    let mut wanted = None;
     for lit in clause.lits.as_slice() {
-        let value = match values.get(lit.variable() as usize) {
-            Some(value) => *value,
-            None => next,
-        };
-        if value != lit.is_negated() {
-            return true;
+        match values.get(lit.variable() as usize) {
+            Some(value) if *value != lit.is_negated() => return None,
+            Some(_) => {}
+            None => wanted = Some(!lit.is_negated()),
         }
     }
-    false
+    wanted
 }
 
 // Gives the next variable its value, which the clauses have to fix.
@@ -62,8 +61,11 @@ pub(crate) fn extended<R: Abort>(rt: &R, formula: &Formula, values: List<bool>) 
                 "a variable without clauses"
             );
         }
-        so_far.may_be_true = so_far.may_be_true && holds_with(clause, &so_far.values, true);
-        so_far.may_be_false = so_far.may_be_false && holds_with(clause, &so_far.values, false);
+        match wanted(clause, &so_far.values) {
+            Some(true) => so_far.may_be_false = false,
+            Some(false) => so_far.may_be_true = false,
+            None => {}
+        }
     }
     if so_far.values.length() < formula.variables.length() {
         settle(rt, &mut so_far);
