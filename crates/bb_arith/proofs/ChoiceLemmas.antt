@@ -5,8 +5,9 @@ use Rattle.std.proofs.lemmas.List.{take_all, take_more_set}
 use Rattle.cn_clauses.specs.declared.lit.Lit.{Lit}
 use Rattle.cn_clauses.specs.declared.formula.Formula.{Formula}
 use Rattle.cn_clauses.specs.Literals.{lit_value}
-use Rattle.cn_clauses.specs.Formulas.{variables_of}
-use Rattle.cn_clauses.specs.Extension.{IsGate}
+use Rattle.cn_clauses.specs.Satisfaction.{Satisfies}
+use Rattle.cn_clauses.specs.Formulas.{variables_of, clauses_of}
+use Rattle.cn_clauses.specs.Extension.{Extends, IsGate}
 use Rattle.cn_clauses.specs.Laws.{ExtendsThrough}
 use Rattle.bb_gates.specs.Values.{chosen, of_three}
 use Rattle.bb_gates.specs.Growth.{AreOf, Adds}
@@ -32,6 +33,16 @@ word_next through old mid new i made lit bit value next lt more so_far gate =
           ∙ ap (λ (n : ℕ). n + 2 ^ i * bit_number (bit w)) (so_far.is w (gate.extends.keeps w h))
           ∙ more w;
     }
+
+-- a word of a formula that was extended before, for a number that is the same there
+pub word_after : ExtendsThrough → (old mid new : Formula) (lits : List Lit) (value other : (ℕ → Bool) → ℕ)
+    → Extends old mid → ((w : ℕ → Bool) → Satisfies w (clauses_of mid) → value w ≡ other w)
+    → IsWordGate mid new lits value → IsWordGate old new lits other
+word_after through old mid new lits value other grown same gate = record {
+  extends = through old mid new grown gate.extends;
+  within = gate.within;
+  is = λ w h. gate.is w h ∙ same w (gate.extends.keeps w h);
+}
 
 -- the bits of a word so far, when they are all
 pub word_whole : (old new : Formula) (i : ℕ) (made : List Lit) (value other : (ℕ → Bool) → ℕ) → length made ≤ i

@@ -1,8 +1,12 @@
 pub mod ChoiceLemmas
+pub mod MoveLemmas
 pub mod NumberLemmas
 pub mod OrderLemmas
 pub mod PlaceLemmas
+pub mod PowerLemmas
 pub mod ProductLemmas
+pub mod ShiftLemmas
 pub mod SignLemmas
+pub mod SignedShiftLemmas
 pub mod SumLemmas
 pub mod WordLemmas

@@ -13,13 +13,13 @@ use Rattle.bb_arith.proofs.NumberLemmas.{double_next, number_below, same_order}
 use Rattle.bb_arith.proofs.WordLemmas.{number_take, set_number}
 
 -- a number below q as a signed one
-abbrev as_signed : ℕ → ℕ → ℤ
+abbrev pub as_signed : ℕ → ℕ → ℤ
 as_signed q k = if nat_lt (2 * k) q then pos k else negsuc (q - suc k)
 
-lower_half : (q k : ℕ) → 2 * k < q → as_signed q k ≡ pos k
+pub lower_half : (q k : ℕ) → 2 * k < q → as_signed q k ≡ pos k
 lower_half q k lt = ap (λ (t : Bool). if t then pos k else negsuc (q - suc k)) (lt-ltb (2 * k) q lt)
 
-upper_half : (q k : ℕ) → q ≤ 2 * k → as_signed q k ≡ negsuc (q - suc k)
+pub upper_half : (q k : ℕ) → q ≤ 2 * k → as_signed q k ≡ negsuc (q - suc k)
 upper_half q k le = ap (λ (t : Bool). if t then pos k else negsuc (q - suc k)) (le-ltb (2 * k) q le)
 
 same_signs : (m n k l : ℤ) → m ≡ k → n ≡ l → int_lt m n ≡ int_lt k l
@@ -48,7 +48,7 @@ signed_order p q x y false false double x_lt y_lt =
     (lower_half q (y + p * 0) (omega (arith, double, y_lt))))
 
 -- all bits of a word, the highest apart
-number_whole : (w : ℕ → Bool) (lits : List Lit) (n : ℕ) (d : Lit) → length lits ≡ n + 1
+pub number_whole : (w : ℕ → Bool) (lits : List Lit) (n : ℕ) (d : Lit) → length lits ≡ n + 1
     → number_of w lits ≡ number_of w (take n lits) + 2 ^ n * bit_number (lit_value w (get_or lits n d))
 number_whole w lits n d len =
     ap (number_of w) (sym (take_all (n + 1) lits (omega (arith, len)))) ∙ number_take w lits n d (omega (arith, len))
@@ -60,12 +60,12 @@ number_topped w lits n top len =
     (sym (take_all (n + 1) (set lits n top) (let same = length-set lits n top in omega (arith, len, same))))
     ∙ set_number w lits n top (lit_value w top) (omega (arith, len)) refl
 
-take_below : (w : ℕ → Bool) (lits : List Lit) (n : ℕ) → length lits ≡ n + 1 → number_of w (take n lits) < 2 ^ n
+pub take_below : (w : ℕ → Bool) (lits : List Lit) (n : ℕ) → length lits ≡ n + 1 → number_of w (take n lits) < 2 ^ n
 take_below w lits n len =
     subst (λ (m : ℕ). number_of w (take n lits) < 2 ^ m) (length-take-le n lits (omega (arith, len)))
     (number_below w (take n lits))
 
-signed_whole : (w : ℕ → Bool) (lits : List Lit) (n : ℕ) (d : Lit) → length lits ≡ n + 1
+pub signed_whole : (w : ℕ → Bool) (lits : List Lit) (n : ℕ) (d : Lit) → length lits ≡ n + 1
     → signed_of w lits ≡ as_signed (2 ^ (n + 1))
     (number_of w (take n lits) + 2 ^ n * bit_number (lit_value w (get_or lits n d)))
 signed_whole w lits n d len =

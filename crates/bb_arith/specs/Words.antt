@@ -1,5 +1,5 @@
 -- Words: literals for the bits of a number, the lowest first.
-use Rattle.std.specs.Prelude.{◌≡◌, ◌+◌, ◌-◌, ◌*◌, ◌^◌, ℕ, ℤ, pos, negsuc, suc, Bool, List, [], ◌∷◌, length, nat_lt}
+use Rattle.std.specs.Prelude.{◌≡◌, ◌+◌, ◌-◌, ◌*◌, ◌%◌, ◌^◌, ℕ, ℤ, pos, negsuc, suc, Bool, List, [], ◌∷◌, length, nat_lt}
 use Rattle.std.specs.Prelude.{if◌then◌else◌}
 use Rattle.cn_clauses.specs.declared.lit.Lit.{Lit}
 use Rattle.cn_clauses.specs.declared.formula.Formula.{Formula}
@@ -25,6 +25,11 @@ signed_number n k = if nat_lt (2 * k) (2 ^ n) then pos k else negsuc (2 ^ n - su
 -- the signed number that a word shows under an assignment
 abbrev pub signed_of : (ℕ → Bool) → List Lit → ℤ
 signed_of w lits = signed_number (length lits) (number_of w lits)
+
+-- a whole number modulo 2 ^ n
+abbrev pub wrapped_number : ℕ → ℤ → ℕ
+wrapped_number n (pos k) = k % 2 ^ n
+wrapped_number n (negsuc k) = 2 ^ n - suc (k % 2 ^ n)
 
 -- a word for a number: it shows the number, and the formula was extended in exactly one way
 pub record IsWordGate (old new : Formula) (lits : List Lit) (value : (ℕ → Bool) → ℕ) : Type 0 where

@@ -5,9 +5,11 @@ mod choice;
 mod order;
 mod places;
 mod product;
+mod shift;
 mod sum;
 
 pub use choice::choose;
 pub use order::{below, less};
 pub use product::mul;
+pub use shift::{shl, shr, ushr};
 pub use sum::{add, sub};

@@ -1,6 +1,6 @@
 // Each call over words of fresh variables, at given numbers, against numbers.
 use crate::extension::{extended, value_of};
-use bb_arith::{add, below, choose, less, mul, sub};
+use bb_arith::{add, below, choose, less, mul, shl, shr, sub, ushr};
 use cn_clauses::{Assignment, Formula, Lit};
 use jv_list::List;
 use std::process::Abort;
@@ -13,17 +13,23 @@ enum Call {
     Sub,
     Choose,
     Mul,
+    Shl,
+    Shr,
+    Ushr,
 }
 
 // A call, and the variables and clauses that it adds over free operands at W 8, 16, 32 and 64.
 #[rattlefmt::skip]
-const CALLS: [(Call, [(usize, usize); 4]); 6] = [
+const CALLS: [(Call, [(usize, usize); 4]); 9] = [
     (Call::Below, [(9, 46), (17, 94), (33, 190), (65, 382)]),
     (Call::Less, [(9, 46), (17, 94), (33, 190), (65, 382)]),
     (Call::Add, [(16, 100), (32, 212), (64, 436), (128, 884)]),
     (Call::Sub, [(16, 100), (32, 212), (64, 436), (128, 884)]),
     (Call::Choose, [(8, 32), (16, 64), (32, 128), (64, 256)]),
     (Call::Mul, [(86, 413), (362, 1897), (1490, 8129), (6050, 33649)]),
+    (Call::Shl, [(25, 90), (65, 242), (161, 610), (385, 1474)]),
+    (Call::Shr, [(21, 84), (60, 240), (155, 620), (378, 1512)]),
+    (Call::Ushr, [(25, 90), (65, 242), (161, 610), (385, 1474)]),
 ];
 
 /// The number whose lowest bits are ones, as many as the width.
@@ -35,17 +41,29 @@ fn ones(width: usize) -> u64 {
     ones
 }
 
+/// The number of some bits as a signed one.
+fn signed(x: u64, ones: u64) -> i64 {
+    if x > ones / 2 {
+        (x | !ones).cast_signed()
+    } else {
+        x.cast_signed()
+    }
+}
+
 /// The number that the call is to give, 1 for true. The choice is whether the first number is greater.
 fn expected(call: Call, width: usize, x: u64, y: u64) -> u64 {
     let ones = ones(width);
-    let sign = ones.wrapping_sub(ones / 2);
+    let distance = u32::try_from(y & (width as u64).wrapping_sub(1)).unwrap_or(0);
     match call {
         Call::Below => u64::from(x < y),
-        Call::Less => u64::from((x ^ sign) < (y ^ sign)),
+        Call::Less => u64::from(signed(x, ones) < signed(y, ones)),
         Call::Add => x.wrapping_add(y) & ones,
         Call::Sub => x.wrapping_sub(y) & ones,
         Call::Choose => x.max(y),
         Call::Mul => x.wrapping_mul(y) & ones,
+        Call::Shl => x.wrapping_shl(distance) & ones,
+        Call::Shr => signed(x, ones).wrapping_shr(distance).cast_unsigned() & ones,
+        Call::Ushr => x.wrapping_shr(distance),
     }
 }
 
@@ -64,29 +82,51 @@ fn fill<R: Abort, const W: usize>(rt: &R, formula: &mut Formula, word: &mut [Lit
     }
 }
 
-/// The call over a word as wide as this one, whose literals tell nothing.
-fn make<R: Abort + AllocGlobal, const W: usize>(rt: &R, call: Call, word: &[Lit; W]) -> Made {
+/// The literals of the answer, the lowest bit first.
+fn answer<R: Abort + AllocGlobal, const W: usize>(
+    rt: &R,
+    formula: &mut Formula,
+    call: Call,
+    choice: Lit,
+    a: &[Lit; W],
+    b: &[Lit; W],
+) -> List<Lit> {
     let alloc = rt.alloc();
-    let mut formula = Formula::new(alloc);
+    assert!(rt; formula.covers(&[choice]) && formula.covers(a) && formula.covers(b));
+    assert!(rt; W.is_power_of_two());
+    let mut lits = List::new(alloc);
+    let word = match call {
+        Call::Below | Call::Less => {
+            let lit = if call == Call::Below {
+                below(alloc, formula, a, b)
+            } else {
+                less(alloc, formula, a, b)
+            };
+            lits.add(lit.expect(rt, "memory")).expect(rt, "memory");
+            return lits;
+        }
+        Call::Add => add(alloc, formula, a, b),
+        Call::Sub => sub(alloc, formula, a, b),
+        Call::Choose => choose(alloc, formula, choice, a, b),
+        Call::Mul => mul(alloc, formula, a, b),
+        Call::Shl => shl(alloc, formula, a, b),
+        Call::Shr => shr(alloc, formula, a, b),
+        Call::Ushr => ushr(alloc, formula, a, b),
+    };
+    lits.extend(&word.expect(rt, "memory")).expect(rt, "memory");
+    lits
+}
+
+/// The call over words as wide as this one, whose literals tell nothing.
+fn make<R: Abort + AllocGlobal, const W: usize>(rt: &R, call: Call, word: &[Lit; W]) -> Made {
+    let mut formula = Formula::new(rt.alloc());
     let choice = formula.fresh().expect(rt, "memory");
     let mut a = *word;
     fill(rt, &mut formula, &mut a);
     let mut b = *word;
     fill(rt, &mut formula, &mut b);
     let inputs = formula.variables.length();
-    assert!(rt; formula.covers(&[choice]) && formula.covers(&a) && formula.covers(&b));
-    let mut lits = List::new(alloc);
-    let added = match call {
-        Call::Below => lits.add(below(alloc, &mut formula, &a, &b).expect(rt, "memory")),
-        Call::Less => lits.add(less(alloc, &mut formula, &a, &b).expect(rt, "memory")),
-        Call::Add => lits.extend(&add(alloc, &mut formula, &a, &b).expect(rt, "memory")),
-        Call::Sub => lits.extend(&sub(alloc, &mut formula, &a, &b).expect(rt, "memory")),
-        Call::Mul => lits.extend(&mul(alloc, &mut formula, &a, &b).expect(rt, "memory")),
-        Call::Choose => {
-            lits.extend(&choose(alloc, &mut formula, choice, &a, &b).expect(rt, "memory"))
-        }
-    };
-    added.expect(rt, "memory");
+    let lits = answer(rt, &mut formula, call, choice, &a, &b);
     Made {
         formula,
         inputs,
