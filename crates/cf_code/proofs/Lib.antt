@@ -20,4 +20,5 @@ pub mod CodeLemmas
 pub mod PlaceLemmas
 pub mod PairLemmas
 pub mod WayLemmas
+pub mod HandlerLemmas
 pub mod StandardFacts

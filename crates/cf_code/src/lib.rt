@@ -8,6 +8,7 @@ mod constant;
 mod decoding;
 mod fault;
 mod field;
+mod handler;
 mod instr;
 mod jump;
 mod kind_set;

@@ -5,9 +5,10 @@ ghost use Rattle.std.specs.List.Sorted.{IsPermutation, IsSorted};
 ghost use Rattle.std.specs.Ordering.{nat_cmp};
 ghost use Rattle.cf_code.specs.Decoding.{pcs};
 ghost use Rattle.cf_code.specs.Transfers.{next_pc, CanFollow, AreInOrder};
-ghost use Rattle.cf_code.specs.Steps.Ways.{found_start, next_ways, target_ways, handler_ways, ways};
+ghost use Rattle.cf_code.specs.Steps.Ways.{found_start, next_ways, target_ways, ways, Adds, IsHandled};
 
 use crate::code::Placed;
+use crate::handler::put_handlers;
 use crate::length::instr_length;
 use crate::target::{goes_on, targets};
 use jv_base::{List, Mem};
@@ -24,7 +25,7 @@ pub struct Row {
 }
 
 /// The pairs of pcs of which the second can follow the first in one frame, each once, ordered by the first and then by
-/// the second. Each row is looked at for each instruction.
+/// the second. Rows with one handler are joined first, so time and memory grow with the pairs that there are.
 pub fn transfers(alloc: Global, code: &List<Placed>, rows: &List<Row>) -> Mem<List<(u16, u16)>>
     ensures pairs { IfOk result (λ found. (a b : ℕ) → Contains found (a, b) ↔ CanFollow code.now rows.now a b) }
     ensures order { IfOk result AreInOrder }
@@ -32,14 +33,9 @@ pub fn transfers(alloc: Global, code: &List<Placed>, rows: &List<Row>) -> Mem<Li
     let starts = sorted_pcs(alloc, code.as_slice())?;
     let mut pairs = Vec::new(alloc);
     for placed in code.as_slice() {
-        put_ways(
-            alloc,
-            &mut pairs,
-            starts.as_slice(),
-            rows.as_slice(),
-            placed,
-        )?;
+        put_ways(alloc, &mut pairs, starts.as_slice(), placed)?;
     }
+    put_handlers(alloc, &mut pairs, starts.as_slice(), rows.as_slice())?;
     pairs.sort_unstable();
     pairs.dedup();
     Ok(List::from_vec(pairs))
@@ -58,20 +54,13 @@ fn sorted_pcs(alloc: Global, code: &[Placed]) -> Mem<Vec<u16>>
     Ok(starts)
 }
 
-/// Puts the pairs that come of an instruction at the end.
-fn put_ways(
-    alloc: Global,
-    out: &mut Vec<(u16, u16)>,
-    starts: &[u16],
-    rows: &[Row],
-    placed: &Placed,
-) -> Mem<()>
+/// Puts the pairs that come of an instruction by itself at the end.
+fn put_ways(alloc: Global, out: &mut Vec<(u16, u16)>, starts: &[u16], placed: &Placed) -> Mem<()>
     requires { IsSorted nat_cmp starts.now }
-    ensures { OnOk result (out.new.items ≡ out.old.items ++ ways starts.now rows.now placed.now) }
+    ensures { OnOk result (out.new.items ≡ out.old.items ++ ways starts.now placed.now) }
 {
     put_next(out, starts, placed)?;
-    put_targets(alloc, out, placed)?;
-    put_handlers(out, placed.pc, rows)
+    put_targets(alloc, out, placed)
 }
 
 /// Puts the pair with the next instruction at the end, where there is one and this one goes on.
@@ -108,18 +97,6 @@ fn put_targets(alloc: Global, out: &mut Vec<(u16, u16)>, placed: &Placed) -> Mem
     let targets = targets(alloc, &placed.instr)?;
     for target in targets.as_slice() {
         out.push((placed.pc, *target))?;
-    }
-    Ok(())
-}
-
-/// Puts the pair with the handler of each row that holds the pc at the end.
-fn put_handlers(out: &mut Vec<(u16, u16)>, pc: u16, rows: &[Row]) -> Mem<()>
-    ensures { OnOk result (out.new.items ≡ out.old.items ++ flat_map (handler_ways pc) rows.now) }
-{
-    for row in rows {
-        if row.start <= pc && pc < row.end {
-            out.push((pc, row.handler))?;
-        }
     }
     Ok(())
 }

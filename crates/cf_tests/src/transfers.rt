@@ -1,6 +1,6 @@
 // Which instruction can follow which, worked out by hand.
 use crate::tables::{bytes_of, cut, number_of, rows, three_of};
-use cf_code::{Placed, Row, read_instr, transfers};
+use cf_code::{Instr, Placed, Row, read_instr, transfers};
 use jv_list::List;
 use std::fmt::Write;
 use std::process::Abort;
@@ -71,6 +71,12 @@ const TRANSFERS: &str = "
     0:00 1:00 2:b1 3:bf | 0-1>3 0-2>3 | 0>1 0>3 1>2 1>3
     0:00 1:00 2:b1 3:bf | 2-3>3 2-3>0 | 0>1 1>2 2>0 2>3
     0:00 1:00 2:b1 3:bf | 1-2>2 | 0>1 1>2
+    // rows of one handler that overlap, hold one another, touch or leave a gap, in any order and beside those of another
+    0:00 1:00 2:00 3:00 4:00 5:b1 | 2-5>0 0-3>0 | 0>0 0>1 1>0 1>2 2>0 2>3 3>0 3>4 4>0 4>5
+    0:00 1:00 2:00 3:00 4:00 5:b1 | 1-5>0 2-3>0 0-2>0 | 0>0 0>1 1>0 1>2 2>0 2>3 3>0 3>4 4>0 4>5
+    0:00 1:00 2:00 3:00 4:00 5:b1 | 3-5>1 0-2>1 2-3>1 0-2>1 | 0>1 1>1 1>2 2>1 2>3 3>1 3>4 4>1 4>5
+    0:00 1:00 2:00 3:00 4:00 5:b1 | 4-6>0 3-4>5 0-1>0 1-2>0 0-6>5 | 0>0 0>1 0>5 1>0 1>2 1>5 2>3 2>5 3>4 3>5 4>0 4>5 5>0 5>5
+    0:00 1:00 2:00 3:00 4:00 5:b1 | 3-2>0 2-4>0 5-1>0 | 0>1 1>2 2>0 2>3 3>0 3>4 4>5
     0:110001 3:b1 | 1-3>3 | 0>3
     0:110001 3:b1 | 0-65535>3 | 0>3 3>3
 ";
@@ -89,4 +95,32 @@ fn each_instruction_is_followed_by_what_can_be_next(rt: HostRuntime) {
         }
         assert!(rt; printed.as_str().trim() == pairs, "{row}");
     }
+}
+
+/// How many pairs there are of as many instructions as a method can have, under as many rows that all hold them.
+fn pairs_of_longest<R: Abort + AllocGlobal>(rt: &R) -> usize {
+    let alloc = rt.alloc();
+    let mut code = Vec::new(alloc);
+    let mut table = Vec::new(alloc);
+    for pc in 0..65535 {
+        let instr = Instr::Nop;
+        code.push(Placed { pc, instr }).expect(rt, "memory");
+        table
+            .push(Row {
+                start: 0,
+                end: 65535,
+                handler: 7,
+                catch_type: pc,
+            })
+            .expect(rt, "memory");
+    }
+    transfers(alloc, &List::from_vec(code), &List::from_vec(table))
+        .expect(rt, "memory")
+        .length()
+}
+
+#[test]
+fn rows_with_one_handler_make_a_pair_once(rt: HostRuntime) {
+    // 65,534 go on, and 65,535 to the handler, to which the one before it goes on too.
+    assert!(rt; pairs_of_longest(&rt) == 131_068);
 }

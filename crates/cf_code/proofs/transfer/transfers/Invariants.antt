@@ -4,4 +4,4 @@ use Rattle.cf_code.specs.Steps.Ways.{ways}
 use Rattle.cf_code.proofs.transfer.transfers.Given as goal
 
 abbrev pub invariant-loop-placed : goal.invariant-loop-placed
-invariant-loop-placed l = l.pairs.items ≡ flat_map (ways l.starts.items l.rows) (take l.placed-index l.placed-items)
+invariant-loop-placed l = l.pairs.items ≡ flat_map (ways l.starts.items) (take l.placed-index l.placed-items)
