@@ -1,0 +1,15 @@
+pub mod AnalyzeLemmas
+pub mod AnswerLemmas
+pub mod BacktrackLemmas
+pub mod CodeLemmas
+pub mod GrowLemmas
+pub mod JumpLemmas
+pub mod LearnLemmas
+pub mod ListLemmas
+pub mod LitLemmas
+pub mod LogLemmas
+pub mod PropagateLemmas
+pub mod SearchLemmas
+pub mod SolveLemmas
+pub mod StoreLemmas
+pub mod TrailLemmas

@@ -1,0 +1,56 @@
+use Rattle.std.proofs.Common.{◌≡◌, ◌<◌, ◌*◌, ◌∙◌, ℕ, sym, subst, ap}
+use Rattle.std.proofs.lemmas.Result.{IfOk-weaker}
+use Rattle.cn_clauses.specs.Literals.{variable_of}
+use Rattle.sa_core.specs.declared.trail.Trail.{Trail}
+use Rattle.sa_core.specs.declared.search.Search.{Search}
+use Rattle.sa_core.specs.SolverView.{AreJustified}
+use Rattle.sa_core.specs.Calls.Propagate.{Starts, Propagates}
+use Rattle.sa_core.specs.SearchView.{IsStored, IsReady}
+use Rattle.sa_core.proofs.ListLemmas.{none_from_test}
+use Rattle.sa_core.proofs.search.Search.start.Goals as goal
+
+-- a search whose trail went on
+ready_by : (search : Search) (trail : Trail) → IsStored search → trail.variables ≡ search.trail.variables
+    → AreJustified search.store trail.steps
+    → IsReady (record { store = search.store; occurrences = search.occurrences; trail = trail })
+ready_by search trail stored same justified =
+    record {
+      stored =
+          record {
+            size = stored.size ∙ ap (λ (n : ℕ). 2 * n) (sym same);
+            listed = stored.listed;
+            within = λ lits has lit within.
+                subst (λ (n : ℕ). variable_of lit < n) (sym same) (stored.within lits has lit within);
+          };
+      justified = justified;
+    }
+
+pub returns-then-is_some-clause-ready : goal.returns-then-is_some-clause-ready
+returns-then-is_some-clause-ready c =
+    ready_by c.args.self.now c.visit_each.new.trail c.requires.stored c.in_ok-conflict.ensures.variables
+    c.in_ok-conflict.ensures.starts.adds.justified
+
+pub propagate-requires-clause-within : goal.propagate-requires-clause-within
+propagate-requires-clause-within c lits has lit within =
+    subst (λ (n : ℕ). variable_of lit < n) (sym c.in_ok-conflict.ensures.variables)
+    (c.requires.stored.within lits has lit within)
+
+pub propagate-requires-clause-covered : goal.propagate-requires-clause-covered
+propagate-requires-clause-covered c =
+    let old = c.args.self.now in
+    let starts =
+    subst (Starts old.store old.trail.steps c.visit_each.new.trail.steps)
+    (none_from_test c.in_ok-conflict.conflict c.is_some.result c.is_some.ensures c.if-is_some.false)
+    c.in_ok-conflict.ensures.starts in
+    starts.started
+
+pub returns-clause-ready : goal.returns-clause-ready
+returns-clause-ready c =
+    let old = c.args.self.now in
+    let new = c.propagate.new.trail in
+    IfOk-weaker c.propagate.result (Propagates old.store c.visit_each.new.trail.steps new.steps)
+    (λ found. IsReady (record { store = old.store; occurrences = old.occurrences; trail = new }))
+    (λ found p.
+    ready_by old new c.requires.stored (c.propagate.ensures.variables ∙ c.in_ok-conflict.ensures.variables)
+    p.adds.justified)
+    c.propagate.ensures.propagates

@@ -1,0 +1,3 @@
+-- What private functions ensure, a file for each module.
+pub mod Analyze
+pub mod Propagate

@@ -1,0 +1,43 @@
+// Backjumping: how much of the trail a learned clause leaves.
+ghost use Rattle.std.specs.Prelude.{◌≡◌, ◌<◌, ◌≤◌, length};
+ghost use Rattle.sa_core.specs.TrailView.{lits_of, Stands};
+ghost use Rattle.sa_core.specs.SolverView.{IsLastDecision, IsWithin};
+ghost use Rattle.sa_core.specs.Analysis.{IsHeight, IsFirstDecision, AreFalseBefore};
+
+use crate::trail::Trail;
+use cn_clauses::{Lit, literal_laws};
+
+/// The least length of the trail at which these literals are false.
+pub fn height(trail: &Trail, lits: &[Lit]) -> usize
+    requires within { IsWithin trail.now.variables lits.now }
+    requires opposed { AreFalseBefore (lits_of trail.now.steps) lits.now }
+    ensures { IsHeight (lits_of trail.now.steps) lits.now result }
+{
+    literal_laws();
+    let mut height = 0;
+    for lit in lits {
+        match trail.place_of(lit.opposite()) {
+            None => {}
+            Some(place) => {
+                if height <= place {
+                    height = place + 1;
+                }
+            }
+        }
+    }
+    height
+}
+
+/// The first decision from a place on, where the mark is one.
+pub fn first_decision(trail: &Trail, from: usize, mark: usize) -> usize
+    requires mark { IsLastDecision trail.now.steps mark }
+    requires from { from ≤ mark }
+    ensures { IsFirstDecision trail.now.steps from result }
+{
+    for place in from..mark {
+        if trail.steps.at(place).reason.is_none() {
+            return place;
+        }
+    }
+    mark
+}

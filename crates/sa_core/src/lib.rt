@@ -1,0 +1,18 @@
+//! A SAT solver that learns clauses. Each answer is proved, and each learned clause follows by unit propagation.
+#![tactic(auto)]
+
+mod analyze;
+mod backtrack;
+mod decide;
+mod log;
+mod occurrences;
+mod propagate;
+mod search;
+mod solver;
+mod span;
+mod step;
+mod store;
+mod trail;
+
+pub use log::{Log, LogEntry};
+pub use solver::{Solved, Solver};
