@@ -15,7 +15,7 @@ use Rattle.sa_core.specs.TrailView.{Stands}
 use Rattle.sa_core.specs.SolverView.{IsFalse, ByTrue, ByOpen, AreSettled, IsImplied}
 use Rattle.sa_core.specs.Analysis.{IsSeen, IsLower, Sees, GivesConflict, SomeSeen, IsLearnedClause}
 use Rattle.sa_core.specs.Calls.Analyze.{SeesMore}
-use Rattle.sa_core.proofs.ListLemmas.{at_contains, one_at}
+use Rattle.jv_list.proofs.ElementLemmas.{at_contains, one_at}
 
 -- a place that was reached from behind
 at_last : (at place end : ℕ) → at < end → end ≡ place + 1 → place ≤ at → place ≡ at

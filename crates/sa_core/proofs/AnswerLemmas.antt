@@ -19,7 +19,7 @@ use Rattle.sa_core.specs.TrailView.{lits_of, Stands, IsPlaced, AllGiven}
 use Rattle.sa_core.specs.SolverView.{IsSettled, ByTrue, ByOpen, AreSettled, IsJustifiedBy, AreJustified, NoDecision}
 use Rattle.sa_core.specs.SolverView.{AreWithin, IsFalseAt}
 use Rattle.sa_core.specs.SearchView.{ReadsAs, Reads}
-use Rattle.sa_core.proofs.ListLemmas.{at_contains}
+use Rattle.jv_list.proofs.ElementLemmas.{at_contains}
 use Rattle.sa_core.proofs.TrailLemmas.{step_at, placed_stands, none_placed, unplaced}
 
 -- the value of a literal that stands

@@ -9,7 +9,7 @@ use Rattle.cn_clauses.specs.Literals.{opposite_of}
 use Rattle.sa_core.specs.declared.step.Step.{Step}
 use Rattle.sa_core.specs.TrailView.{lits_of, Stands, IsOpen, Grows}
 use Rattle.sa_core.specs.SolverView.{IsSettled, ByTrue, ByOpen, IsCovered, IsUnit, IsJustifiedBy, AreJustified}
-use Rattle.sa_core.proofs.ListLemmas.{one_at, some_at, from_take}
+use Rattle.jv_list.proofs.ElementLemmas.{one_at, some_at, from_take}
 use Rattle.sa_core.proofs.LitLemmas.{cases_lit}
 use Rattle.sa_core.proofs.TrailLemmas.{at_lit, step_at, lits_length}
 

@@ -5,7 +5,6 @@ pub mod CodeLemmas
 pub mod GrowLemmas
 pub mod JumpLemmas
 pub mod LearnLemmas
-pub mod ListLemmas
 pub mod LitLemmas
 pub mod LogLemmas
 pub mod PropagateLemmas

@@ -15,7 +15,7 @@ use Rattle.sa_core.specs.SolverView.{IsFalse, IsSettled, ByTrue, AreSettled, IsC
 use Rattle.sa_core.specs.SolverView.{IsJustifiedBy, AreJustified, Adds}
 use Rattle.sa_core.specs.Occurs.{AreListed}
 use Rattle.sa_core.specs.Calls.Propagate.{AsksFor, IsScanned, IsCoveredAt, Visits, VisitsAll, Starts}
-use Rattle.sa_core.proofs.ListLemmas.{place_of, at_contains, one_at, from_take}
+use Rattle.jv_list.proofs.ElementLemmas.{place_of, at_contains, one_at, from_take}
 use Rattle.sa_core.proofs.TrailLemmas.{lits_length, lits_push}
 use Rattle.sa_core.proofs.GrowLemmas.{grows_same, grows_more, grows_push, justified_kept, covered_kept, covered_from}
 

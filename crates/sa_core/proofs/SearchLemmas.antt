@@ -15,7 +15,7 @@ use Rattle.sa_core.specs.TrailView.{lits_of, Stands, IsOpen, IsPlaced, Grows, co
 use Rattle.sa_core.specs.SolverView.{IsSettled, ByTrue, ByOpen, AreSettled, IsCovered, AreCovered, IsJustifiedBy}
 use Rattle.sa_core.specs.SolverView.{AreJustified, IsLastDecision}
 use Rattle.sa_core.specs.Analysis.{IsLearned, IsHeight, IsFirstDecision}
-use Rattle.sa_core.proofs.ListLemmas.{count_filled}
+use Rattle.jv_list.proofs.ElementLemmas.{count_filled}
 use Rattle.sa_core.proofs.TrailLemmas.{lits_length, lits_push}
 use Rattle.sa_core.proofs.GrowLemmas.{grows_push, grows_cut, kept_lit, was_lit, was_settled, justified_kept}
 use Rattle.sa_core.proofs.GrowLemmas.{cut_justified, settled_or_waiting}

@@ -11,7 +11,7 @@ use Rattle.cn_clauses.specs.Literals.{opposite_of, variable_of}
 use Rattle.cn_clauses.specs.Laws.{OppositeTwice}
 use Rattle.sa_core.specs.declared.step.Step.{Step}
 use Rattle.sa_core.specs.TrailView.{lits_of, Stands, IsOpen, IsPlaced}
-use Rattle.sa_core.proofs.ListLemmas.{empty, some_at, replicate_none, count_replicate, count_filled, count_emptied}
+use Rattle.jv_list.proofs.ElementLemmas.{empty, some_at, replicate_none, count_replicate, count_filled, count_emptied}
 use Rattle.sa_core.proofs.LitLemmas.{same_lit, number_of, cases_lit, not_opposite, within_size}
 
 -- the literal of a step stands at its place

@@ -10,7 +10,7 @@ use Rattle.sa_core.specs.declared.analyze.Seen.{Seen}
 use Rattle.sa_core.specs.TrailView.{lits_of}
 use Rattle.sa_core.specs.SolverView.{AreJustified, IsJustifiedBy, IsImplied}
 use Rattle.sa_core.specs.Analysis.{IsSeen, IsLower, SomeSeen, IsLearnedClause, Sees}
-use Rattle.sa_core.proofs.ListLemmas.{at_contains, one_at}
+use Rattle.jv_list.proofs.ElementLemmas.{at_contains, one_at}
 use Rattle.sa_core.proofs.TrailLemmas.{at_lit, lits_length}
 use Rattle.sa_core.proofs.AnalyzeLemmas.{gives_first, gives_resolve, learned_clause, some_first, some_kept}
 use Rattle.sa_core.proofs.JumpLemmas.{settled_at}

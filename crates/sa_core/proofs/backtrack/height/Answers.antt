@@ -3,7 +3,7 @@ use Rattle.std.proofs.lemmas.List.{take_more}
 use Rattle.cn_clauses.specs.declared.lit.Lit.{Lit}
 use Rattle.sa_core.specs.TrailView.{lits_of}
 use Rattle.sa_core.specs.Analysis.{IsHeight}
-use Rattle.sa_core.proofs.ListLemmas.{in_read}
+use Rattle.jv_list.proofs.ElementLemmas.{in_read}
 use Rattle.sa_core.proofs.TrailLemmas.{no_place, its_place}
 use Rattle.sa_core.proofs.BacktrackLemmas.{height_more, height_same}
 use Rattle.sa_core.proofs.backtrack.height.Goals as goal

@@ -5,7 +5,7 @@ use Rattle.cn_clauses.specs.declared.lit.Lit.{Lit}
 use Rattle.sa_core.specs.TrailView.{lits_of, HasValue}
 use Rattle.sa_core.specs.SolverView.{IsFalse, ByTrue, ByOpen}
 use Rattle.sa_core.specs.Calls.Propagate.{IsScanned}
-use Rattle.sa_core.proofs.ListLemmas.{in_read}
+use Rattle.jv_list.proofs.ElementLemmas.{in_read}
 use Rattle.sa_core.proofs.LitLemmas.{same_from_test, apart_from_test}
 use Rattle.sa_core.proofs.PropagateLemmas.{in_front, scanned_false, scanned_first, scanned_again}
 use Rattle.sa_core.proofs.propagate.asked_by.Goals as goal

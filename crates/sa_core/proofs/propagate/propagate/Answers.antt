@@ -2,7 +2,7 @@ use Rattle.std.proofs.Common.{◌≡◌, ◌<◌, ◌≤◌, ◌*◌, ◌∙◌,
 use Rattle.cn_clauses.specs.declared.lit.Lit.{Lit}
 use Rattle.cn_clauses.specs.Literals.{variable_of}
 use Rattle.sa_core.specs.Calls.Propagate.{VisitsAll}
-use Rattle.sa_core.proofs.ListLemmas.{none_from_test}
+use Rattle.jv_list.proofs.ElementLemmas.{none_from_test}
 use Rattle.sa_core.proofs.LitLemmas.{below_size}
 use Rattle.sa_core.proofs.TrailLemmas.{at_lit, placed_within}
 use Rattle.sa_core.proofs.PropagateLemmas.{head_more, all_settled, adds_more}

@@ -1,5 +1,5 @@
 use Rattle.std.proofs.Common.{refl}
-use Rattle.sa_core.proofs.ListLemmas.{at_contains}
+use Rattle.jv_list.proofs.ElementLemmas.{at_contains}
 use Rattle.sa_core.proofs.PropagateLemmas.{visit_nothing, visit_literal}
 use Rattle.sa_core.proofs.propagate.visit.Goals as goal
 

@@ -2,7 +2,7 @@ use Rattle.std.proofs.Common.{◌<◌, ℕ, List, take, get_or, sym, subst}
 use Rattle.std.proofs.lemmas.List.{take_more}
 use Rattle.cn_clauses.specs.declared.lit.Lit.{Lit}
 use Rattle.sa_core.specs.Occurs.{ListsAll}
-use Rattle.sa_core.proofs.ListLemmas.{in_read}
+use Rattle.jv_list.proofs.ElementLemmas.{in_read}
 use Rattle.sa_core.proofs.StoreLemmas.{lists_more}
 use Rattle.sa_core.proofs.occurrences.Occurrences.add_all.Goals as goal
 

@@ -6,7 +6,7 @@ use Rattle.sa_core.specs.declared.search.Search.{Search}
 use Rattle.sa_core.specs.SolverView.{AreJustified}
 use Rattle.sa_core.specs.Calls.Propagate.{Starts, Propagates}
 use Rattle.sa_core.specs.SearchView.{IsStored, IsReady}
-use Rattle.sa_core.proofs.ListLemmas.{none_from_test}
+use Rattle.jv_list.proofs.ElementLemmas.{none_from_test}
 use Rattle.sa_core.proofs.search.Search.start.Goals as goal
 
 -- a search whose trail went on

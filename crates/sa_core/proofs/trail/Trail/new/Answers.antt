@@ -1,6 +1,6 @@
 use Rattle.std.proofs.Common.{◌*◌, ◌<◌, None, length, ap, arith, ◌∙◌}
 use Rattle.std.proofs.lemmas.List.{length-replicate}
-use Rattle.sa_core.proofs.ListLemmas.{some_iff, filled_up}
+use Rattle.jv_list.proofs.ElementLemmas.{some_iff, filled_up}
 use Rattle.sa_core.proofs.TrailLemmas.{placed_none}
 use Rattle.sa_core.proofs.trail.Trail.new.Goals as goal
 
