@@ -1,7 +1,7 @@
 -- The code that stands at the starts of bytes, as far as it is read.
 use Rattle.std.proofs.Common.{◌≡◌, ◌<◌, ◌≤◌, ◌+◌, ◌-◌, ℕ, List, [], ◌∷◌, ◌++◌, length, take, drop, get_or, refl, sym}
 use Rattle.std.proofs.Common.{ap}
-use Rattle.std.proofs.Common.{subst, ◌∙◌, arith}
+use Rattle.std.proofs.Common.{subst, ◌∙◌, append_assoc, append-nil, length-append, arith}
 use Rattle.std.specs.List.{AllByRecursion}
 use Rattle.std.proofs.lemmas.List.{take-append-drop, drop-drop, drop_all, length-take-le, get_or-take, take_more}
 use Rattle.std.proofs.lemmas.List.{take_all}
@@ -9,7 +9,7 @@ use Rattle.std.proofs.lemmas.List.Elements.{All-get_or, All-from_recursion}
 use Rattle.jv_list.proofs.PieceLemmas.{rest_is}
 use Rattle.cf_code.specs.Code.{code_spelling, AllFit}
 use Rattle.cf_code.specs.Decoding.{IsLaid, pcs, HasTargets, IsCode, FallsInto, HasStarts, IsGood, HasBadOpcode}
-use Rattle.cf_code.specs.Decoding.{HasBadTarget}
+use Rattle.cf_code.specs.Decoding.{HasBadTarget, BeginsWith}
 use Rattle.cf_code.specs.Instr.{spelling, Fits, IsInstr}
 use Rattle.cf_code.specs.Sizes.{HasSize}
 use Rattle.cf_code.specs.Steps.Starts.{IsOnlyInstr}
@@ -90,17 +90,31 @@ module _ (bytes starts : List ℕ) where
       ap (λ (n : ℕ). take size (drop n bytes)) (sym e) ∙ ap (λ (n : ℕ). take n (drop s bytes)) same ∙ only.is.0
       ∙ ap (λ (n : ℕ). spelling n p.instr) (sym pc_is)
 
-  places_spelled : (pc : ℕ) (ss : List ℕ) (ps : List Placed) (stop : ℕ) → FallsInto bytes pc ss stop
-      → Places bytes starts ss ps → length bytes ≤ stop → drop pc bytes ≡ code_spelling ps
-  places_spelled pc [] [] stop f h l = drop_all pc bytes (omega (arith, f))
-  places_spelled pc [] (p ∷ ps) stop f h l = absurd h
-  places_spelled pc (s ∷ ss) [] stop f h l = absurd h
-  places_spelled pc (s ∷ ss) (p ∷ ps) stop f h l =
+  -- an instruction is as long as the bytes up to the next start
+  one_long : (pc s size : ℕ) (p : Placed) → s ≡ pc → HasSize pc (drop pc bytes) size → p.pc ≡ s
+      → IsOnlyInstr starts s (drop s bytes) p.instr → size ≡ length (spelling p.pc p.instr)
+  one_long pc s size p e h pc_is only =
+      let there = size_within pc (drop pc bytes) size h in
+      sym (length-take-le size (drop pc bytes) there.1) ∙ ap length (one_spelled pc s size p e h pc_is only)
+
+  -- the bytes up to a start are those of the instructions before it
+  places_spelled : (pc : ℕ) (ss : List ℕ) (ps : List Placed) (at : ℕ) → FallsInto bytes pc ss at
+      → Places bytes starts ss ps
+      → (drop pc bytes ≡ code_spelling ps ++ drop at bytes) × (at ≡ pc + length (code_spelling ps))
+  places_spelled pc [] [] at f h = (ap (λ (n : ℕ). drop n bytes) f, omega (arith, f))
+  places_spelled pc [] (p ∷ ps) at f h = absurd h
+  places_spelled pc (s ∷ ss) [] at f h = absurd h
+  places_spelled pc (s ∷ ss) (p ∷ ps) at f h =
       let size = f.1.0 in
+      let text = spelling p.pc p.instr in
       let one = one_spelled pc s size p f.0 f.1.1 h.0 h.1 in
-      let others = drop-drop size pc bytes ∙ places_spelled (pc + size) ss ps stop f.1.2 h.2 l in
-      sym (take-append-drop size (drop pc bytes)) ∙ ap (λ (t : List ℕ). t ++ drop size (drop pc bytes)) one
-      ∙ ap (λ (t : List ℕ). spelling p.pc p.instr ++ t) others
+      let long = one_long pc s size p f.0 f.1.1 h.0 h.1 in
+      let others = places_spelled (pc + size) ss ps at f.1.2 h.2 in (
+        sym (take-append-drop size (drop pc bytes)) ∙ ap (λ (t : List ℕ). t ++ drop size (drop pc bytes)) one
+            ∙ ap (λ (t : List ℕ). text ++ t) (drop-drop size pc bytes ∙ others.0)
+            ∙ sym (append_assoc text (code_spelling ps) (drop at bytes)),
+        omega (arith, others.1, long, length-append text (code_spelling ps)),
+      )
 
   places_laid : (pc : ℕ) (ss : List ℕ) (ps : List Placed) (stop : ℕ) → FallsInto bytes pc ss stop
       → Places bytes starts ss ps → IsLaid pc ps
@@ -108,12 +122,8 @@ module _ (bytes starts : List ℕ) where
   places_laid pc [] (p ∷ ps) stop f h = absurd h
   places_laid pc (s ∷ ss) [] stop f h = absurd h
   places_laid pc (s ∷ ss) (p ∷ ps) stop f h =
-      let size = f.1.0 in
-      let one = one_spelled pc s size p f.0 f.1.1 h.0 h.1 in
-      let there = size_within pc (drop pc bytes) size f.1.1 in
-      let long : size ≡ length (spelling p.pc p.instr) =
-      sym (length-take-le size (drop pc bytes) there.1) ∙ ap length one in
-      (h.0 ∙ f.0, subst (λ (n : ℕ). IsLaid (pc + n) ps) long (places_laid (pc + size) ss ps stop f.1.2 h.2))
+      let long = one_long pc s f.1.0 p f.0 f.1.1 h.0 h.1 in
+      (h.0 ∙ f.0, subst (λ (n : ℕ). IsLaid (pc + n) ps) long (places_laid (pc + f.1.0) ss ps stop f.1.2 h.2))
 
   -- ---- what is read at a place
 
@@ -143,11 +153,29 @@ module _ (bytes starts : List ℕ) where
         let given = places_have_targets starts ps h in
         let targeted = λ (ss : List ℕ). AllByRecursion (λ (p : Placed). HasTargets ss p.instr) ps in
         record {
-          spelled = places_spelled 0 starts ps stop has.falls h l;
+          spelled = (places_spelled 0 starts ps stop has.falls h).0
+              ∙ ap (λ (t : List ℕ). code_spelling ps ++ t) (drop_all stop bytes l) ∙ append-nil (code_spelling ps);
           laid = places_laid 0 starts ps stop has.falls h;
           fit = places_fit starts ps h;
           have_targets = subst targeted (places_pcs starts ps h) given;
         }
+
+    -- what the bytes begin with, up to a start or the stop
+    pub begins : (ss : List ℕ) (at : ℕ) → FallsInto bytes 0 ss at → Places bytes starts ss ps → BeginsWith bytes ps
+    begins ss at falls h = record {
+      starts = starts;
+      stop = stop;
+      rest = drop at bytes;
+      has = has;
+      parts = (places_spelled 0 ss ps at falls h).0;
+      laid = places_laid 0 ss ps at falls h;
+      fit = places_fit ss ps h;
+      have_targets = places_have_targets ss ps h;
+    }
+
+    pub begins_to : (ss : List ℕ) (at : ℕ) → FallsInto bytes 0 ss at → Places bytes starts ss ps
+        → at ≡ length (code_spelling ps)
+    begins_to ss at falls h = omega (arith, (places_spelled 0 ss ps at falls h).1)
 
     -- no instruction begins where they stop
     pub bad_opcode : stop < length bytes → Places bytes starts starts ps → HasBadOpcode bytes stop

@@ -1,5 +1,5 @@
 -- The starts into which bytes fall, by the sizes of instructions alone.
-use Rattle.std.proofs.Common.{◌≡◌, inl, inr, ◌<◌, ◌≤◌, ◌+◌, ℕ, zero, suc, List, [], ◌∷◌, ◌++◌, length, drop}
+use Rattle.std.proofs.Common.{◌≡◌, inl, inr, ◌<◌, ◌≤◌, ◌+◌, ℕ, zero, suc, List, [], ◌∷◌, ◌++◌, length, take, drop}
 use Rattle.std.proofs.Common.{get_or, refl, sym, ap, subst, ◌∙◌, arith}
 use Rattle.std.specs.Prelude.{◌⊎◌}
 use Rattle.std.proofs.lemmas.List.{drop_all, get_or_default}
@@ -16,6 +16,14 @@ module _ (bytes : List ℕ) where
       let here = subst (λ (p : ℕ). HasSize p (drop p bytes) size) (sym f) h in
       (sym f, (size, here, ap (λ (p : ℕ). p + size) f))
   falls_more pc (s ∷ ss) stop size f h = (f.0, (f.1.0, f.1.1, falls_more (pc + f.1.0) ss stop size f.1.2 h))
+
+  -- the starts before one lead up to it
+  pub falls_take : (pc : ℕ) (starts : List ℕ) (stop k d : ℕ) → FallsInto bytes pc starts stop → k < length starts
+      → FallsInto bytes pc (take k starts) (get_or starts k d)
+  falls_take pc [] stop k d f l = absurd (omega arith)
+  falls_take pc (s ∷ ss) stop zero d f l = sym f.0
+  falls_take pc (s ∷ ss) stop (suc k) d f l =
+      (f.0, (f.1.0, f.1.1, falls_take (pc + f.1.0) ss stop k d f.1.2 (omega arith)))
 
   -- the starts lie between the first pc and the end of the bytes
   falls_at : (pc : ℕ) (starts : List ℕ) (stop i d : ℕ) → FallsInto bytes pc starts stop → i < length starts

@@ -1,9 +1,11 @@
 -- The code of a method as a list of instructions (JVM Specification SE 8, 4.9.1: static constraints on the code array), and
 -- the first place where bytes are none.
-use Rattle.std.specs.Prelude.{◌≡◌, ◌⊎◌, ℕ, ◌+◌, ◌<◌, ◌≤◌, List, [], ◌∷◌, length, take, drop, map, Contains}
+use Rattle.std.specs.Prelude.{◌≡◌, ◌⊎◌, ℕ, ◌+◌, ◌<◌, ◌≤◌, List, [], ◌∷◌, ◌++◌, length, take, drop, map, Contains}
 use Rattle.std.specs.List.{AllByRecursion}
 use Rattle.cf_code.specs.declared.code.Placed.{Placed}
 use Rattle.cf_code.specs.declared.instr.Instr.{Instr}
+use Rattle.cf_code.specs.declared.decoding.End.{End}
+use Rattle.cf_code.specs.declared.decoding.End.TheVariants.{Whole, BadOpcode, BadTarget}
 use Rattle.cf_code.specs.Code.{code_spelling, AllFit}
 use Rattle.cf_code.specs.Instr.{spelling, IsInstr}
 use Rattle.cf_code.specs.Sizes.{HasSize}
@@ -69,3 +71,23 @@ pub record HasBadTarget (bytes : List ℕ) (pc : ℕ) : Type 0 where
   pub is_start : Contains starts pc
   pub bad : IsGood bytes starts pc → ⊥
   pub good : (earlier : ℕ) → Contains starts earlier → earlier < pc → IsGood bytes starts earlier
+
+-- ---- the instructions before a fault
+
+-- the bytes begin with these instructions, from pc 0 on, and each target of them is the pc of an instruction that the bytes
+-- fall into
+pub record BeginsWith (bytes : List ℕ) (code : List Placed) : Type 0 where
+  pub starts : List ℕ
+  pub stop : ℕ
+  pub rest : List ℕ
+  pub has : HasStarts bytes starts stop
+  pub parts : bytes ≡ code_spelling code ++ rest
+  pub laid : IsLaid 0 code
+  pub fit : AllFit code
+  pub have_targets : AllByRecursion (λ placed. HasTargets starts placed.instr) code
+
+-- behind these instructions the bytes end, or have their first fault
+abbrev pub EndsAs : List ℕ → List Placed → End → Type 0
+EndsAs bytes code Whole = IsCode bytes code
+EndsAs bytes code (BadOpcode pc) = HasBadOpcode bytes pc × (pc ≡ length (code_spelling code))
+EndsAs bytes code (BadTarget pc) = HasBadTarget bytes pc × (pc ≡ length (code_spelling code))

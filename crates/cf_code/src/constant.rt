@@ -1,5 +1,5 @@
 // Instructions that push a constant.
-ghost use Rattle.std.specs.Prelude.{◌≡◌, ◌++◌, Some, IfSome, OnOk};
+ghost use Rattle.std.specs.Prelude.{◌≡◌, ◌++◌, ◌↔◌, IsTrue, Some, IfSome, OnOk};
 ghost use Rattle.cf_code.specs.Constants.{constant_spelling, FitsConstant};
 
 use jv_base::Mem;
@@ -18,6 +18,18 @@ pub enum Constant {
     Ldc(u8),
     LdcW(u16),
     Ldc2W(u16),
+}
+
+/// Whether the number of the constant fits its form.
+pub(crate) fn fits_constant(constant: Constant) -> bool
+    ensures { IsTrue result ↔ FitsConstant constant }
+{
+    match constant {
+        Constant::Iconst(value) => -1 <= value && value <= 5,
+        Constant::Lconst(value) | Constant::Dconst(value) => value <= 1,
+        Constant::Fconst(value) => value <= 2,
+        _ => true,
+    }
 }
 
 /// The instruction that these bytes spell.

@@ -4,7 +4,7 @@ ghost use Rattle.std.specs.List.{AllByRecursion};
 ghost use Rattle.cf_code.specs.Instr.{IsInstr};
 ghost use Rattle.cf_code.specs.Sizes.{HasSize};
 ghost use Rattle.cf_code.specs.Steps.Starts.{Marks, IsOnlyInstr};
-ghost use Rattle.cf_code.specs.Decoding.{HasStarts, HasTargets, IsCode, HasBadOpcode, HasBadTarget};
+ghost use Rattle.cf_code.specs.Decoding.{HasStarts, HasTargets, IsCode, HasBadOpcode, HasBadTarget, BeginsWith, EndsAs};
 
 use crate::code::Placed;
 use crate::fault::CodeFault;
@@ -99,12 +99,30 @@ fn next_placed(alloc: Global, starts: &Starts, pc: u16, bytes: &[u8]) -> Mem<Opt
     }
 }
 
-/// The instructions that the bytes of a method's code are, or their first fault.
-fn read_code(alloc: Global, bytes: &[u8]) -> Mem<Result<List<Placed>, CodeFault>>
+/// How the instructions that bytes begin with end.
+#[derive(Clone, Copy, Debug, PartialEq, Eq)]
+pub enum End {
+    /// They are all of the bytes, which are code.
+    Whole,
+    /// No instruction begins there.
+    BadOpcode(u16),
+    /// The operands of the instruction there are bad.
+    BadTarget(u16),
+}
+
+/// The instructions that bytes begin with, up to the first fault.
+#[derive(Debug, Drop)]
+pub struct Walked {
+    pub code: List<Placed>,
+    pub end: End,
+}
+
+/// The instructions that the bytes of a method's code begin with, up to the first fault, and that fault. `decode` tells the
+/// fault alone; who judges operands needs the instructions that stand before it.
+pub fn walk(alloc: Global, bytes: &[u8]) -> Mem<Walked>
     requires { length bytes.now < 2 ^ 16 }
-    ensures found { IfOk result (λ r. IfOk r (λ code. IsCode bytes.now code)) }
-    ensures bad_opcode { (pc : ℕ) → result ≡ Ok (Err (CodeFault.BadOpcode pc)) → HasBadOpcode bytes.now pc }
-    ensures bad_target { (pc : ℕ) → result ≡ Ok (Err (CodeFault.BadTarget pc)) → HasBadTarget bytes.now pc }
+    ensures begins { IfOk result (λ walk. BeginsWith bytes.now walk.code) }
+    ensures end { IfOk result (λ walk. EndsAs bytes.now walk.code walk.end) }
 {
     let (pcs, stop) = starts_of(alloc, bytes)?;
     let starts = marks_of(alloc, pcs, bytes.len())?;
@@ -112,14 +130,19 @@ fn read_code(alloc: Global, bytes: &[u8]) -> Mem<Result<List<Placed>, CodeFault>
     for pc in &starts.pcs {
         let rest = &bytes[usize::from(*pc)..];
         let Some(instr) = next_placed(alloc, &starts, *pc, rest)? else {
-            return Ok(Err(CodeFault::BadTarget(*pc)));
+            let code = List::from_vec(code);
+            let end = End::BadTarget(*pc);
+            return Ok(Walked { code, end });
         };
         code.push(Placed { pc: *pc, instr })?;
     }
+    let code = List::from_vec(code);
     if usize::from(stop) < bytes.len() {
-        return Ok(Err(CodeFault::BadOpcode(stop)));
+        let end = End::BadOpcode(stop);
+        return Ok(Walked { code, end });
     }
-    Ok(Ok(List::from_vec(code)))
+    let end = End::Whole;
+    Ok(Walked { code, end })
 }
 
 /// The instructions that the bytes of a method's code are. A fault is the first one from the left: each byte list is code
@@ -130,5 +153,10 @@ pub fn decode(alloc: Global, bytes: &[u8]) -> Result<List<Placed>, CodeFault>
     ensures bad_opcode { (pc : ℕ) → result ≡ Err (CodeFault.BadOpcode pc) → HasBadOpcode bytes.now pc }
     ensures bad_target { (pc : ℕ) → result ≡ Err (CodeFault.BadTarget pc) → HasBadTarget bytes.now pc }
 {
-    read_code(alloc, bytes)?
+    let Walked { code, end } = walk(alloc, bytes)?;
+    match end {
+        End::Whole => Ok(code),
+        End::BadOpcode(pc) => Err(CodeFault::BadOpcode(pc)),
+        End::BadTarget(pc) => Err(CodeFault::BadTarget(pc)),
+    }
 }

@@ -1,5 +1,5 @@
 // Jumps, whose targets are pcs.
-ghost use Rattle.std.specs.Prelude.{◌≡◌, ◌++◌, ◌+◌, ◌∷◌, [], ◌<◌, ◌^◌, ℕ, Some, IfSome, OnOk};
+ghost use Rattle.std.specs.Prelude.{◌≡◌, ◌++◌, ◌+◌, ◌∷◌, [], ◌<◌, ◌^◌, ◌↔◌, IsTrue, ℕ, Some, IfSome, OnOk};
 ghost use Rattle.cf_code.specs.Bytes.{two, four, offset, signed_two, signed_four, IsTwo};
 ghost use Rattle.cf_code.specs.Jumps.{near_spelling, far_spelling, jump_spelling, IsNear, FitsJump};
 ghost use Rattle.cf_code.specs.Steps.Opcodes.{jump_opcode};
@@ -38,6 +38,23 @@ pub enum Jump {
     GotoW(u16),
     Jsr(u16),
     JsrW(u16),
+}
+
+/// Whether an offset of two bytes reaches a target from a pc.
+fn is_near(pc: u16, target: u16) -> bool
+    ensures { IsTrue result ↔ IsNear pc target }
+{
+    i16::try_from(i32::from(target) - i32::from(pc)).is_ok()
+}
+
+/// Whether the offset of the jump at a pc reaches its target.
+pub(crate) fn fits_jump(pc: u16, jump: Jump) -> bool
+    ensures { IsTrue result ↔ FitsJump pc jump }
+{
+    match jump {
+        Jump::GotoW(_) | Jump::JsrW(_) => true,
+        _ => is_near(pc, jump_target(jump)),
+    }
 }
 
 /// The jump that these bytes spell at a pc. None also where the target is no pc of two bytes.

@@ -1,5 +1,5 @@
 // Instructions on local variables.
-ghost use Rattle.std.specs.Prelude.{◌≡◌, ◌++◌, ◌<◌, ◌≤◌, Some, IfSome, OnOk};
+ghost use Rattle.std.specs.Prelude.{◌≡◌, ◌++◌, ◌<◌, ◌≤◌, ◌↔◌, IsTrue, Some, IfSome, OnOk};
 ghost use Rattle.cf_code.specs.Locals.{load_spelling, store_spelling, local_spelling, FitsIndex, FitsLocal};
 ghost use Rattle.cf_code.specs.Steps.Accesses.{word_number, based_spelling};
 
@@ -31,6 +31,26 @@ pub enum Local {
     IincWide(u16, i16),
     Ret(u8),
     RetWide(u16),
+}
+
+/// Whether the index fits its form.
+fn fits_index(index: LocalIndex) -> bool
+    ensures { IsTrue result ↔ FitsIndex index }
+{
+    match index {
+        LocalIndex::Short(n) => n <= 3,
+        LocalIndex::Byte(_) | LocalIndex::Wide(_) => true,
+    }
+}
+
+/// Whether the index of the local variable fits its form.
+pub(crate) fn fits_local(local: Local) -> bool
+    ensures { IsTrue result ↔ FitsLocal local }
+{
+    match local {
+        Local::Load(_, index) | Local::Store(_, index) => fits_index(index),
+        _ => true,
+    }
 }
 
 /// The instruction that these bytes spell.

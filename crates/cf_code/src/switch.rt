@@ -105,7 +105,7 @@ fn read_pairs(alloc: Global, pc: u16, bytes: &[u8]) -> Mem<Option<List<Case>>>
 }
 
 /// Whether each key is above the one before.
-fn rise(cases: &[Case]) -> bool
+pub(crate) fn rise(cases: &[Case]) -> bool
     ensures { IsTrue result ↔ Rise cases.now }
 {
     for k in 1..cases.len() {

@@ -1,9 +1,10 @@
 // The code of methods (JVM Specification SE 8, 4.9.1, and 6.5 for each instruction), whole and damaged.
 ghost use Rattle.cf_code.specs.Instr.{Fits};
 
-use crate::tables::{bytes_of, rows, two_of};
+use crate::tables::{bytes_of, rows, three_of, two_of};
 use cf_code::{
-    CodeFault, Instr, Placed, decode, encode, no_code, one_code, one_fault, one_size, read_instr,
+    Case, CodeFault, Constant, Instr, Jump, Local, LocalIndex, LookupSwitch, Placed, TableSwitch,
+    Word, all_fit, decode, encode, fits, no_code, one_code, one_fault, one_size, read_instr, walk,
 };
 use jv_list::List;
 use std::process::Abort;
@@ -90,6 +91,105 @@ fn code_is_decoded_or_has_its_first_fault(rt: HostRuntime) {
     one_code();
     no_code();
     one_fault();
+}
+
+// The bytes of a method's code, the instructions before the first fault, and how they end.
+const WALKS: &str = "
+     | [] | Whole
+    b1 | [Placed { pc: 0, instr: Return(Nothing) }] | Whole
+    ca | [] | BadOpcode(0)
+    0011 | [Placed { pc: 0, instr: Nop }] | BadOpcode(1)
+    // a jump to a bad opcode comes before it, and one before both is kept
+    a70003ca | [] | BadTarget(0)
+    00a70003ca | [Placed { pc: 0, instr: Nop }] | BadTarget(1)
+    a70000ca | [Placed { pc: 0, instr: Jump(Goto(0)) }] | BadOpcode(3)
+    // the first of two bad targets, and what stands behind it is not told
+    00a70002b1a70001 | [Placed { pc: 0, instr: Nop }] | BadTarget(1)
+    // a good jump over the fault
+    a70006a70001b1 | [Placed { pc: 0, instr: Jump(Goto(6)) }] | BadTarget(3)
+    // an index of the constant pool is not judged
+    b60000a70001 | [Placed { pc: 0, instr: Call(Virtual(0)) }] | BadTarget(3)
+";
+
+#[test]
+fn code_is_walked_up_to_its_first_fault(rt: HostRuntime) {
+    let alloc = rt.alloc();
+    for row in &rows(&rt, WALKS) {
+        let (bytes, code, end) = three_of(&rt, row);
+        let bytes = bytes_of(&rt, bytes);
+        assert!(rt; bytes.len() <= 65535);
+        let found = walk(alloc, &bytes).expect(&rt, "memory");
+        let printed = format!(in alloc; "{:?} {:?}", found.code, found.end).expect(&rt, "memory");
+        let wanted = format!(in alloc; "List {{ items: {code} }} {end}").expect(&rt, "memory");
+        assert!(rt; printed.as_str() == wanted.as_str(), "{row}");
+    }
+}
+
+/// Switches behind three bytes of padding and one of them, of so many targets from a key on, or of these keys.
+fn table<R: Abort + AllocGlobal>(rt: &R, padding: usize, low: i32, count: usize) -> Instr {
+    let alloc = rt.alloc();
+    let padding = vec![in alloc; 0u8; padding].expect(rt, "memory");
+    let targets = vec![in alloc; 0u16; count].expect(rt, "memory");
+    Instr::Table(TableSwitch {
+        padding: List::from_vec(padding),
+        default: 0,
+        low,
+        targets: List::from_vec(targets),
+    })
+}
+
+fn lookup<R: Abort + AllocGlobal>(rt: &R, padding: usize, keys: &[i32]) -> Instr {
+    let alloc = rt.alloc();
+    let padding = vec![in alloc; 0u8; padding].expect(rt, "memory");
+    let mut cases = List::new(alloc);
+    for key in keys {
+        let case = Case {
+            key: *key,
+            target: 0,
+        };
+        cases.add(case).expect(rt, "memory");
+    }
+    Instr::Lookup(LookupSwitch {
+        padding: List::from_vec(padding),
+        default: 0,
+        cases,
+    })
+}
+
+#[test]
+fn an_instruction_fits_where_it_has_bytes(rt: HostRuntime) {
+    let alloc = rt.alloc();
+    let short = |n| Instr::Local(Local::Load(Word::Int, LocalIndex::Short(n)));
+    let goto = |target| Instr::Jump(Jump::Goto(target));
+    let cases = [
+        (0, Instr::Nop, true),
+        (0, Instr::Constant(Constant::Iconst(-1)), true),
+        (0, Instr::Constant(Constant::Iconst(-2)), false),
+        (0, Instr::Constant(Constant::Iconst(6)), false),
+        (0, Instr::Constant(Constant::Fconst(2)), true),
+        (0, Instr::Constant(Constant::Dconst(2)), false),
+        (0, short(3), true),
+        (0, short(4), false),
+        (0, goto(32767), true),
+        (0, goto(32768), false),
+        (65535, goto(32767), true),
+        (65535, goto(32766), false),
+        (0, Instr::Jump(Jump::GotoW(65535)), true),
+        (0, table(&rt, 3, 0, 1), true),
+        (1, table(&rt, 3, 0, 1), false),
+        (3, table(&rt, 0, 2_147_483_647, 1), true),
+        (3, table(&rt, 0, 2_147_483_647, 2), false),
+        (3, table(&rt, 0, 0, 0), false),
+        (2, lookup(&rt, 1, &[]), true),
+        (2, lookup(&rt, 1, &[-1, 0]), true),
+        (2, lookup(&rt, 1, &[0, 0]), false),
+        (2, lookup(&rt, 2, &[0]), false),
+    ];
+    for (pc, instr, fit) in cases {
+        assert!(rt; fits(pc, &instr) == fit, "{pc} {instr:?}");
+        let code = vec![in alloc; Placed { pc, instr }].expect(&rt, "memory");
+        assert!(rt; all_fit(&List::from_vec(code)) == fit);
+    }
 }
 
 /// How many instructions the longest code of jumps of three bytes has: the first to itself, each other to the one before.

@@ -1,11 +1,12 @@
-use Rattle.std.proofs.Common.{◌≡◌, ◌≤◌, ◌<◌, ℕ, List, length, take, get_or, refl, sym, subst, ◌∙◌, arith, rules}
+use Rattle.std.proofs.Common.{◌≡◌, ◌≤◌, ◌<◌, ℕ, List, length, take, get_or, refl, sym, subst, ap, ◌∙◌, arith, rules}
 use Rattle.std.proofs.lemmas.List.{get_or_default}
 use Rattle.cf_code.specs.declared.code.Placed.{Placed}
-use Rattle.cf_code.specs.Decoding.{HasStarts, IsGood, IsCode, HasBadOpcode, HasBadTarget}
+use Rattle.cf_code.specs.Code.{code_spelling}
+use Rattle.cf_code.specs.Decoding.{HasStarts, IsGood, IsCode, BeginsWith}
 use Rattle.cf_code.proofs.PlaceLemmas.{Places, places_step, places_all, only_there, good_there, code_whole, bad_opcode}
-use Rattle.cf_code.proofs.PlaceLemmas.{bad_target}
-use Rattle.cf_code.proofs.StartLemmas.{start_inside}
-use Rattle.cf_code.proofs.decoding.read_code.Goals as goal
+use Rattle.cf_code.proofs.PlaceLemmas.{bad_target, begins, begins_to}
+use Rattle.cf_code.proofs.StartLemmas.{start_inside, falls_take}
+use Rattle.cf_code.proofs.decoding.walk.Goals as goal
 
 -- the starts of a loop that goes over them
 same_starts : (bytes starts between same : List ℕ) (stop : ℕ) → same ≡ between → between ≡ starts
@@ -41,8 +42,19 @@ slice_bounds-rest-start c =
     let inside : c.from.result ≤ length bytes = omega (arith, there, c.from.ensures) in
     search (rules, arith)
 
-pub returns-in_default-clause-bad_target : goal.returns-in_default-clause-bad_target
-returns-in_default-clause-bad_target c pc e =
+pub returns-in_default-clause-begins : goal.returns-in_default-clause-begins
+returns-in_default-clause-begins c =
+    let xs = c.deref-pc-items.result.now in
+    let bytes = c.args.bytes.now in
+    let k = c.loop-pc.pc-index in
+    let stop = c.in_ok-pcs.stop in
+    let has = same_starts bytes _ _ xs stop c.deref-pc-items.ensures.value c.in_ok-starts.ensures c.in_ok-pcs.ensures in
+    let falls = falls_take bytes 0 xs stop k 0 has.falls c.loop-pc-test.true in
+    let read = begins bytes xs stop c.loop-pc.code.items has (take k xs) (get_or xs k 0) falls c.loop-pc.invariant in
+    subst (λ (ps : List Placed). BeginsWith bytes ps) (sym c.from_vec-code.ensures) read
+
+pub returns-in_default-clause-end : goal.returns-in_default-clause-end
+returns-in_default-clause-end c =
     let xs = c.deref-pc-items.result.now in
     let bytes = c.args.bytes.now in
     let k = c.loop-pc.pc-index in
@@ -53,10 +65,11 @@ returns-in_default-clause-bad_target c pc e =
     let bad : IsGood bytes xs at → ⊥ = λ good.
     let read = good_there bytes xs starts at c.from.result c.from.ensures (sym c.deref-pc-items.ensures.value) good in
     c.in_default.not-Some read.1 (c.in_ok-instr.ensures.only read.0 read.1 read.2 read.3 read.4) in
-    let same : at ≡ pc = cc in
     let is = get_or_default xs k 0 at c.loop-pc-test.true in
     let here = bad_target bytes xs stop c.loop-pc.code.items has k at c.loop-pc-test.true is c.loop-pc.invariant bad in
-    subst (λ (n : ℕ). HasBadTarget bytes n) same here
+    let falls = falls_take bytes 0 xs stop k 0 has.falls c.loop-pc-test.true in
+    let long = begins_to bytes xs stop c.loop-pc.code.items has (take k xs) at falls c.loop-pc.invariant in
+    (here, long ∙ ap (λ (ps : List Placed). length (code_spelling ps)) (sym c.from_vec-code.ensures))
 
 pub loop-pc-preserved : goal.loop-pc-preserved
 loop-pc-preserved c =
@@ -71,19 +84,41 @@ loop-pc-preserved c =
     (record { pc = at; instr = c.in-Some.instr }) c.loop-pc-test.true c.loop-pc.invariant refl only
     c.in_ok-push.ensures.items
 
-pub returns-then-from-bytes-clause-bad_opcode : goal.returns-then-from-bytes-clause-bad_opcode
-returns-then-from-bytes-clause-bad_opcode c pc e =
+pub returns-then-from-bytes-clause-begins : goal.returns-then-from-bytes-clause-begins
+returns-then-from-bytes-clause-begins c =
+    let xs = c.deref-pc-items.result.now in
+    let bytes = c.args.bytes.now in
+    let stop = c.in_ok-pcs.stop in
+    let has = same_starts bytes _ _ xs stop c.deref-pc-items.ensures.value c.in_ok-starts.ensures c.in_ok-pcs.ensures in
+    let all = places_all bytes xs c.loop-pc.pc-index c.loop-pc.code.items c.loop-pc-test.false c.loop-pc.invariant in
+    subst (λ (ps : List Placed). BeginsWith bytes ps) (sym c.from_vec-code-2.ensures)
+    (begins bytes xs stop c.loop-pc.code.items has xs stop has.falls all)
+
+pub returns-then-from-bytes-clause-end : goal.returns-then-from-bytes-clause-end
+returns-then-from-bytes-clause-end c =
     let xs = c.deref-pc-items.result.now in
     let bytes = c.args.bytes.now in
     let stop = c.in_ok-pcs.stop in
     let has = same_starts bytes _ _ xs stop c.deref-pc-items.ensures.value c.in_ok-starts.ensures c.in_ok-pcs.ensures in
     let all = places_all bytes xs c.loop-pc.pc-index c.loop-pc.code.items c.loop-pc-test.false c.loop-pc.invariant in
     let inside : stop < length bytes = omega (arith, c.from-2.ensures, c.if-from-bytes.true) in
-    let same : stop ≡ pc = cc in
-    subst (λ (n : ℕ). HasBadOpcode bytes n) same (bad_opcode bytes xs stop c.loop-pc.code.items has inside all)
+    let long = begins_to bytes xs stop c.loop-pc.code.items has xs stop has.falls all in (
+      bad_opcode bytes xs stop c.loop-pc.code.items has inside all,
+      long ∙ ap (λ (ps : List Placed). length (code_spelling ps)) (sym c.from_vec-code-2.ensures),
+    )
 
-pub returns-clause-found : goal.returns-clause-found
-returns-clause-found c =
+pub returns-clause-begins : goal.returns-clause-begins
+returns-clause-begins c =
+    let xs = c.deref-pc-items.result.now in
+    let bytes = c.args.bytes.now in
+    let stop = c.in_ok-pcs.stop in
+    let has = same_starts bytes _ _ xs stop c.deref-pc-items.ensures.value c.in_ok-starts.ensures c.in_ok-pcs.ensures in
+    let all = places_all bytes xs c.loop-pc.pc-index c.loop-pc.code.items c.loop-pc-test.false c.loop-pc.invariant in
+    subst (λ (ps : List Placed). BeginsWith bytes ps) (sym c.from_vec-code-2.ensures)
+    (begins bytes xs stop c.loop-pc.code.items has xs stop has.falls all)
+
+pub returns-clause-end : goal.returns-clause-end
+returns-clause-end c =
     let xs = c.deref-pc-items.result.now in
     let bytes = c.args.bytes.now in
     let stop = c.in_ok-pcs.stop in
@@ -91,4 +126,4 @@ returns-clause-found c =
     let all = places_all bytes xs c.loop-pc.pc-index c.loop-pc.code.items c.loop-pc-test.false c.loop-pc.invariant in
     let past : length bytes ≤ stop = omega (arith, c.from-2.ensures, c.if-from-bytes.false) in
     let whole = code_whole bytes xs stop c.loop-pc.code.items has past all in
-    subst (λ (ps : List Placed). IsCode bytes ps) (sym c.from_vec.ensures) whole
+    subst (λ (ps : List Placed). IsCode bytes ps) (sym c.from_vec-code-2.ensures) whole
