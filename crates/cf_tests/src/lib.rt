@@ -14,6 +14,8 @@ mod folders;
 #[cfg(test)]
 mod instructions;
 #[cfg(test)]
+mod judgements;
+#[cfg(test)]
 mod kinds;
 #[cfg(test)]
 mod lists;

@@ -6,8 +6,8 @@ use cf_structure::{BodyPart, ClassFault, one_structure, read_structure, spelled}
 use std::alloc::AllocError;
 use std::process::Abort;
 
-// A class T without members.
-const SMALLEST: &str = "
+/// A class T without members.
+pub(crate) const SMALLEST: &str = "
     cafebabe00000034 0005 070002 01000154 070004 0100106a6176612f6c616e672f4f626a656374
     0021 0001 0003 0000 0000 0000 0000
 ";

@@ -1,0 +1,15 @@
+pub mod IndexLemmas
+pub mod FormLemmas
+pub mod FirstLemmas
+pub mod KeyLemmas
+pub mod FlagLemmas
+pub mod DecidedLemmas
+pub mod TellsLemmas
+pub mod LoopLemmas
+pub mod RisingLemmas
+pub mod PartLemmas
+pub mod ClassLemmas
+pub mod RiseLemmas
+pub mod JudgedLemmas
+pub mod WordLemmas
+pub mod LawLemmas

@@ -1,0 +1,20 @@
+//! The judging of the names, the descriptors and the indices of a class file whose structure was read: the first one that is
+//! not as the format has it.
+#![tactic(auto)]
+
+mod attribute;
+mod class_file;
+mod entry;
+mod form;
+mod index;
+mod laws;
+mod member;
+mod size;
+mod text;
+
+pub use class_file::judge;
+pub use form::Form;
+pub use index::{Wanted, wrong_index};
+pub use laws::one_judgement;
+pub use member::MemberKind;
+pub use text::{Forms, Text};
