@@ -1,12 +1,15 @@
 pub mod ChoiceLemmas
+pub mod DivisionLemmas
 pub mod MoveLemmas
 pub mod NumberLemmas
 pub mod OrderLemmas
 pub mod PlaceLemmas
 pub mod PowerLemmas
 pub mod ProductLemmas
+pub mod QuotientLemmas
 pub mod ShiftLemmas
 pub mod SignLemmas
+pub mod SignedDivisionLemmas
 pub mod SignedShiftLemmas
 pub mod SumLemmas
 pub mod WordLemmas

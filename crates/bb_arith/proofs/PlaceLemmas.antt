@@ -74,9 +74,6 @@ number_upper w lits n le =
     sym (shr_high (number_of w (drop n lits)) n (number_of w (take n lits)) (lower_below w lits n le))
     ∙ ap (λ (m : ℕ). m / 2 ^ n) (sym (number_parts w lits n le))
 
-no_sum : (a b z : ℕ) → z ≡ 0 → z + b * a ≡ a * b + 0
-no_sum a b z none = omega (arith, none)
-
 -- the lower bits of a product by a power of two
 scaled_lower : (a p q : ℕ) → a % 2 ^ q * 2 ^ p + 0 ≡ (a * 2 ^ p) % 2 ^ (q + p)
 scaled_lower a p q =
@@ -84,18 +81,27 @@ scaled_lower a p q =
     ∙ ap (λ (m : ℕ). (a * 2 ^ p / 2 ^ p) % 2 ^ q * 2 ^ p + m) (sym (mul-mod_left a (2 ^ p)))
     ∙ sym (mod-pow-add (a * 2 ^ p) q p)
 
--- a word that is moved up, with zeros below
+turned_fill : (z p x : ℕ) → z + p * x ≡ x * p + 0 + z
+turned_fill z p x = omega arith
+
+-- a word that is moved up, with a literal below
 pub up_value : (w : ℕ → Bool) (word : List Lit) (n p : ℕ) (fill : Lit) → length word ≡ n → p ≤ n
-    → lit_value w fill ≡ false
-    → number_of w (replicate p fill ++ take (n - p) word) ≡ (number_of w word * 2 ^ p) % 2 ^ n
-up_value w word n p fill len le zeros =
+    → number_of w (replicate p fill ++ take (n - p) word)
+    ≡ (number_of w word * 2 ^ p) % 2 ^ n + bit_number (lit_value w fill) * (2 ^ p - 1)
+up_value w word n p fill len le =
     let whole : n - p + p ≡ n = omega (arith, le) in
+    let z = bit_number (lit_value w fill) * (2 ^ p - 1) in
     number_joined w (replicate p fill) (take (n - p) word)
     ∙ ap (λ (m : ℕ). number_of w (replicate p fill) + 2 ^ m * number_of w (take (n - p) word)) (length-replicate p fill)
-    ∙ no_sum (number_of w (take (n - p) word)) (2 ^ p) (number_of w (replicate p fill)) (number_zeros w p fill zeros)
-    ∙ ap (λ (m : ℕ). m * 2 ^ p + 0) (number_lower w word (n - p) (omega (arith, len)))
-    ∙ scaled_lower (number_of w word) p (n - p)
-    ∙ ap (λ (m : ℕ). (number_of w word * 2 ^ p) % 2 ^ m) whole
+    ∙ ap (λ (m : ℕ). m + 2 ^ p * number_of w (take (n - p) word)) (number_repeated w p fill)
+    ∙ turned_fill z (2 ^ p) (number_of w (take (n - p) word))
+    ∙ ap (λ (m : ℕ). m * 2 ^ p + 0 + z) (number_lower w word (n - p) (omega (arith, len)))
+    ∙ ap (λ (m : ℕ). m + z) (scaled_lower (number_of w word) p (n - p))
+    ∙ ap (λ (m : ℕ). (number_of w word * 2 ^ p) % 2 ^ m + z) whole
+
+-- with zeros below
+pub zeros_below : (m p : ℕ) (fill : Bool) → fill ≡ false → m + bit_number fill * p ≡ m
+zeros_below m p fill is = ap (λ (b : Bool). m + bit_number b * p) is ∙ (let e : m + 0 * p ≡ m = omega arith in e)
 
 less_one : (p q b : ℕ) → 0 < q → p * (b * (q - 1)) ≡ b * (p * q - p)
 less_one p (suc r) b lt = let e : p * suc r - p ≡ p * r = omega arith in

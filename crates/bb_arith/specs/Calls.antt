@@ -1,2 +1,3 @@
 -- What private functions ensure.
+pub mod Division
 pub mod Moves

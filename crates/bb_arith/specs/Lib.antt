@@ -1,3 +1,4 @@
 pub mod Calls
+pub mod Quotients
 pub mod Sums
 pub mod Words

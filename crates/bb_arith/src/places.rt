@@ -25,7 +25,7 @@ pub fn moved<const W: usize>(word: &[Lit; W], down: bool, places: usize, fill: L
 pub fn moved_up<const W: usize>(word: &[Lit; W], places: usize, fill: Lit) -> [Lit; W]
     requires { places ≤ W }
     ensures within { (f : Formula) → AreOf f word.now → AreOf f (fill ∷ []) → AreOf f result }
-    ensures value { (w : ℕ → Bool) → lit_value w fill ≡ false → number_of w result ≡ (number_of w word.now * 2 ^ places) % 2 ^ W }
+    ensures value { (w : ℕ → Bool) → number_of w result ≡ (number_of w word.now * 2 ^ places) % 2 ^ W + bit_number (lit_value w fill) * (2 ^ places - 1) }
 {
     let mut moved = [fill; W];
     let upper = &mut moved[..];

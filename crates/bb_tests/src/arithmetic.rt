@@ -1,6 +1,6 @@
 // Each call over words of fresh variables, at given numbers, against numbers.
 use crate::extension::{extended, value_of};
-use bb_arith::{add, below, choose, less, mul, shl, shr, sub, ushr};
+use bb_arith::{add, below, choose, divrem, less, mul, shl, shr, sub, ushr};
 use cn_clauses::{Assignment, Formula, Lit};
 use jv_list::List;
 use std::process::Abort;
@@ -16,11 +16,13 @@ enum Call {
     Shl,
     Shr,
     Ushr,
+    Quotient,
+    Remainder,
 }
 
 // A call, and the variables and clauses that it adds over free operands at W 8, 16, 32 and 64.
 #[rattlefmt::skip]
-const CALLS: [(Call, [(usize, usize); 4]); 9] = [
+const CALLS: [(Call, [(usize, usize); 4]); 11] = [
     (Call::Below, [(9, 46), (17, 94), (33, 190), (65, 382)]),
     (Call::Less, [(9, 46), (17, 94), (33, 190), (65, 382)]),
     (Call::Add, [(16, 100), (32, 212), (64, 436), (128, 884)]),
@@ -30,6 +32,8 @@ const CALLS: [(Call, [(usize, usize); 4]); 9] = [
     (Call::Shl, [(25, 90), (65, 242), (161, 610), (385, 1474)]),
     (Call::Shr, [(21, 84), (60, 240), (155, 620), (378, 1512)]),
     (Call::Ushr, [(25, 90), (65, 242), (161, 610), (385, 1474)]),
+    (Call::Quotient, [(353, 1702), (1233, 6518), (4529, 25366), (17265, 99926)]),
+    (Call::Remainder, [(353, 1702), (1233, 6518), (4529, 25366), (17265, 99926)]),
 ];
 
 /// The number whose lowest bits are ones, as many as the width.
@@ -50,6 +54,17 @@ fn signed(x: u64, ones: u64) -> i64 {
     }
 }
 
+/// The quotient, or what it leaves.
+fn divided(call: Call, x: i64, divisor: i64) -> i64 {
+    if divisor == 0 {
+        0
+    } else if call == Call::Quotient {
+        x.wrapping_div(divisor)
+    } else {
+        x.wrapping_rem(divisor)
+    }
+}
+
 /// The number that the call is to give, 1 for true. The choice is whether the first number is greater.
 fn expected(call: Call, width: usize, x: u64, y: u64) -> u64 {
     let ones = ones(width);
@@ -64,6 +79,9 @@ fn expected(call: Call, width: usize, x: u64, y: u64) -> u64 {
         Call::Shl => x.wrapping_shl(distance) & ones,
         Call::Shr => signed(x, ones).wrapping_shr(distance).cast_unsigned() & ones,
         Call::Ushr => x.wrapping_shr(distance),
+        Call::Quotient | Call::Remainder => {
+            divided(call, signed(x, ones), signed(y, ones)).cast_unsigned() & ones
+        }
     }
 }
 
@@ -93,7 +111,7 @@ fn answer<R: Abort + AllocGlobal, const W: usize>(
 ) -> List<Lit> {
     let alloc = rt.alloc();
     assert!(rt; formula.covers(&[choice]) && formula.covers(a) && formula.covers(b));
-    assert!(rt; W.is_power_of_two());
+    assert!(rt; W.is_power_of_two() && W <= 64);
     let mut lits = List::new(alloc);
     let word = match call {
         Call::Below | Call::Less => {
@@ -104,6 +122,14 @@ fn answer<R: Abort + AllocGlobal, const W: usize>(
             };
             lits.add(lit.expect(rt, "memory")).expect(rt, "memory");
             return lits;
+        }
+        Call::Quotient | Call::Remainder => {
+            let made = divrem(alloc, formula, a, b).expect(rt, "memory");
+            Ok(if call == Call::Quotient {
+                made.quotient
+            } else {
+                made.remainder
+            })
         }
         Call::Add => add(alloc, formula, a, b),
         Call::Sub => sub(alloc, formula, a, b),

@@ -1,8 +1,8 @@
-use Rattle.std.proofs.Common.{rules, ◌<◌, ◌≤◌, length, arith}
+use Rattle.std.proofs.Common.{rules, ◌^◌, ◌-◌, ◌∙◌, ◌<◌, ◌≤◌, length, arith}
 use Rattle.cn_clauses.specs.declared.lit.Lit.{Lit}
 use Rattle.cn_clauses.specs.Formulas.{variables_of}
 use Rattle.bb_arith.proofs.WordLemmas.{bit_within, word_grown}
-use Rattle.bb_arith.proofs.PlaceLemmas.{repeated_within}
+use Rattle.bb_arith.proofs.PlaceLemmas.{repeated_within, zeros_below}
 use Rattle.bb_arith.proofs.SumLemmas.{constant_size}
 use Rattle.bb_arith.proofs.ProductLemmas.{product_start, product_more, product_whole, product_size, first_size}
 use Rattle.bb_arith.proofs.product.mul.Goals as goal
@@ -91,7 +91,8 @@ loop-i-preserved g c =
     let last = c.in_ok-product.ensures.gate in
     record {
       gate = product_more laws.through n i old mid between new a b d zero c.loop-i.product moved row
-          c.in_ok-product.product in_b c.loop-i.invariant.gate zeros c.moved_up-moved.ensures.value chosen last;
+          c.in_ok-product.product in_b c.loop-i.invariant.gate zeros
+          (λ w none. c.moved_up-moved.ensures.value w ∙ zeros_below _ (2 ^ i - 1) _ none) chosen last;
       zero = c.value_laws.ensures.later mid new zero _
           (laws.continues_through mid between new chosen.extends.continues last.extends.continues) zeros;
       size = product_size n i old mid between new c.loop-i.invariant.size c.choose.ensures.size c.add.ensures.size;
