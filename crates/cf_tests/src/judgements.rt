@@ -174,7 +174,7 @@ fn a_class_file_is_in_order_or_has_its_first_fault(rt: HostRuntime) {
         let (place, byte, wanted) = three_of(&rt, row);
         let mut bytes = bytes_of(&rt, SMALLEST);
         let place = usize::from(number_of(&rt, place));
-        let byte = number_of(&rt, byte) as u8;
+        let byte = byte.parse::<u8>().expect(&rt, "a byte");
         *bytes.get_mut(place).expect(&rt, "a place") = byte;
         assert!(rt; judged(&rt, &bytes).as_str() == wanted, "{row}");
     }
