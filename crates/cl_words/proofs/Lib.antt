@@ -1,0 +1,5 @@
+mod LawLemmas
+mod LineLemmas
+mod NumberLemmas
+mod TakesLemmas
+mod UseLemmas

@@ -1,0 +1,2 @@
+-- What private functions ensure.
+pub mod Options

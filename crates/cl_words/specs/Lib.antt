@@ -1,0 +1,4 @@
+pub mod Calls
+pub mod Command
+pub mod CommandLine
+pub mod Laws
