@@ -20,7 +20,7 @@ use Rattle.cf_structure.proofs.ReadLemmas.{again_to_end}
 use Rattle.cf_structure.proofs.ReadLemmas.{two_reads, four_reads, counted_reads}
 use Rattle.cf_structure.proofs.AttributeLemmas.{attribute_reads}
 
-attributes_read : (place : Holder) (pool : List PoolEntry)
+pub attributes_read : (place : Holder) (pool : List PoolEntry)
     → Reads (counted_at at_end (attribute_at place pool)) (counted_text attribute_text)
     (AreFew (FitsAttribute place pool))
 attributes_read place pool = counted_reads (attribute_at place pool) attribute_text (FitsAttribute place pool)
@@ -52,7 +52,7 @@ member_reads place pool = let r = two_reads at_end in let read_attributes = attr
       ) refl;
 }
 
-members_read : (place : Holder) (pool : List PoolEntry)
+pub members_read : (place : Holder) (pool : List PoolEntry)
     → Reads (counted_at at_end (member_at place pool)) (counted_text member_text) (AreFew (FitsMember place pool))
 members_read place pool = counted_reads (member_at place pool) member_text (FitsMember place pool)
     (member_reads place pool) at_end

@@ -27,14 +27,14 @@ AreBytes-from_all bytes all i =
     ]
 
 -- the version is the eight bytes before the pool
-same_head : (x y b c : List ℕ) → length x ≡ length y → x ++ b ≡ y ++ c → (x ≡ y) × (b ≡ c)
+pub same_head : (x y b c : List ℕ) → length x ≡ length y → x ++ b ≡ y ++ c → (x ≡ y) × (b ≡ c)
 same_head x y b c long e = (
   sym (take_at x b (length x) refl) ∙ ap (take (length x)) e ∙ take_at y c (length x) (sym long),
   sym (drop_at x b (length x) refl) ∙ ap (drop (length x)) e ∙ drop_at y c (length x) (sym long),
 )
 
 -- what stands behind the pool
-behind_pool : (bytes : List ℕ) (pool : List PoolEntry) (place : ℕ) (p : IsPool bytes pool place)
+pub behind_pool : (bytes : List ℕ) (pool : List PoolEntry) (place : ℕ) (p : IsPool bytes pool place)
     → drop place bytes ≡ p.rest
 behind_pool bytes pool place p =
     let head = p.head ++ pool_text pool in

@@ -14,5 +14,5 @@ pub use attribute::{AttributePart, BodyKind, BodyPart, Holder};
 pub use class_file::{ClassPart, Structure, Version, read_structure};
 pub use code::{CodePart, Row, SkippedPart};
 pub use fault::{ClassFault, Cut};
-pub use laws::{one_structure, spelled};
+pub use laws::{extra_bytes, one_structure, spelled};
 pub use member::MemberPart;

@@ -2,7 +2,7 @@
 // damaged ones with the places of their faults.
 use crate::tables::{bytes_of, rows, three_of};
 use cf_pool::{Fault, PoolFault, What};
-use cf_structure::{BodyPart, ClassFault, one_structure, read_structure, spelled};
+use cf_structure::{BodyPart, ClassFault, extra_bytes, one_structure, read_structure, spelled};
 use std::alloc::AllocError;
 use std::process::Abort;
 
@@ -83,6 +83,7 @@ fn bytes_fall_into_the_parts_of_a_class_file(rt: HostRuntime) {
     }
     one_structure();
     spelled();
+    extra_bytes();
 }
 
 // The first fault, the start of a file, and the bytes behind it.
