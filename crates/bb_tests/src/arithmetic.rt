@@ -192,24 +192,13 @@ fn agree<R: Abort + AllocGlobal>(rt: &R, call: Call, width: usize, made: &Made, 
     );
 }
 
-// Each call at all pairs of numbers of so many bits.
-fn all_agree<R: Abort + AllocGlobal, const W: usize>(rt: &R, word: &[Lit; W]) {
-    let numbers = ones(W).wrapping_add(1);
-    for (call, _) in CALLS {
-        let made = make(rt, call, word);
-        for x in 0..numbers {
-            for y in 0..numbers {
-                agree(rt, call, W, &made, x, y);
-            }
-        }
+/// All numbers of so many bits.
+fn all_numbers<R: Abort + AllocGlobal>(rt: &R, width: usize) -> Vec<u64> {
+    let mut numbers = Vec::new(rt.alloc());
+    for number in 0..ones(width).wrapping_add(1) {
+        numbers.push(number).expect(rt, "memory");
     }
-}
-
-#[test]
-fn short_words_agree_with_all_numbers(rt: HostRuntime) {
-    all_agree(&rt, &[Lit(0); 1]);
-    all_agree(&rt, &[Lit(0); 2]);
-    all_agree(&rt, &[Lit(0); 8]);
+    numbers
 }
 
 /// Numbers of so many bits: the least and the greatest ones, with a sign and without, and some drawn at random.
@@ -229,7 +218,7 @@ fn some_numbers<R: Abort + AllocGlobal>(rt: &R, width: usize) -> Vec<u64> {
         numbers.push(number).expect(rt, "memory");
     }
     let mut drawn = 1_u64;
-    for _ in 0..12 {
+    for _ in 0..if width > 16 { 4 } else { 12 } {
         drawn = drawn
             .wrapping_mul(6_364_136_223_846_793_005)
             .wrapping_add(1_442_695_040_888_963_407);
@@ -238,6 +227,34 @@ fn some_numbers<R: Abort + AllocGlobal>(rt: &R, width: usize) -> Vec<u64> {
             .expect(rt, "memory");
     }
     numbers
+}
+
+// Each call at all pairs of numbers of so many bits; a division of words of more than four bits by some of them.
+fn all_agree<R: Abort + AllocGlobal, const W: usize>(rt: &R, word: &[Lit; W]) {
+    let all = all_numbers(rt, W);
+    let some = some_numbers(rt, W);
+    for (call, _) in CALLS {
+        let made = make(rt, call, word);
+        let divides = call == Call::Quotient || call == Call::Remainder;
+        let others = if divides && W > 4 {
+            some.as_slice()
+        } else {
+            all.as_slice()
+        };
+        for x in &all {
+            for y in others {
+                agree(rt, call, W, &made, *x, *y);
+            }
+        }
+    }
+}
+
+#[test]
+fn short_words_agree_with_all_numbers(rt: HostRuntime) {
+    all_agree(&rt, &[Lit(0); 1]);
+    all_agree(&rt, &[Lit(0); 2]);
+    all_agree(&rt, &[Lit(0); 4]);
+    all_agree(&rt, &[Lit(0); 8]);
 }
 
 // Each call at pairs of some numbers of so many bits, and its size.
