@@ -1,8 +1,7 @@
 -- The flags of members.
-use Rattle.std.proofs.Common.{◌≡◌, ℕ, ◌+◌, List, [], ◌∷◌, Result, Ok, Err, refl, ap, arith, inl}
+use Rattle.std.proofs.Common.{ℕ, List, [], ◌∷◌, Result, refl, ap, arith, inl}
 use Rattle.cf_pool.specs.declared.entry.PoolEntry.{PoolEntry}
 use Rattle.cf_pool.specs.declared.fault.What.TheVariants as words
-use Rattle.cf_pool.specs.declared.fault.Fault.{Fault}
 use Rattle.cf_structure.specs.declared.fault.ClassFault.{ClassFault}
 use Rattle.cf_structure.specs.Raw.{RawMember}
 use Rattle.cf_judge.specs.declared.member.MemberKind.{MemberKind}

@@ -9,7 +9,7 @@ use Rattle.std.proofs.lemmas.Bool.{false≢true}
 use Rattle.cf_judge.specs.declared.form.Form.{Form}
 use Rattle.cf_judge.specs.declared.form.Form.TheVariants as forms
 use Rattle.cf_judge.specs.declared.text.Forms.{Forms}
-use Rattle.cf_judge.specs.Forms.{IsNameOf, IsOfForm, Spell}
+use Rattle.cf_judge.specs.Forms.{IsNameOf, IsOfForm}
 use Rattle.cf_judge.specs.Texts.{has, AreFormsOf, AreSpelled}
 use Rattle.jv_list.proofs.ToldLemmas.{told_map}
 

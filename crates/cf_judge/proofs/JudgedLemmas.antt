@@ -1,5 +1,5 @@
 -- The first broken demand of those that rise has the first fault.
-use Rattle.std.proofs.Common.{◌≡◌, ℕ, ◌<◌, ◌≤◌, List, [], ◌∷◌, refl, sym, subst, inl, inr, ◌⊎◌, ap, ◌∙◌, arith}
+use Rattle.std.proofs.Common.{◌≡◌, List, [], ◌∷◌, sym, subst, inl, inr, ap, ◌∙◌, arith}
 use Rattle.std.specs.List.{Contains, AllByRecursion}
 use Rattle.cf_pool.specs.declared.entry.PoolEntry.{PoolEntry}
 use Rattle.cf_pool.specs.declared.fault.What.{What}
@@ -8,11 +8,10 @@ use Rattle.cf_structure.specs.declared.fault.ClassFault.{ClassFault}
 use Rattle.cf_structure.specs.declared.fault.ClassFault.TheVariants.{Malformed, NoMemory}
 use Rattle.cf_structure.specs.Raw.{RawFile}
 use Rattle.cf_structure.specs.ClassFile.{Names}
-use Rattle.cf_judge.specs.Words.{rank}
 use Rattle.cf_judge.specs.Demands.{Demand, demands}
 use Rattle.cf_judge.specs.Judged.{Breaks, IsWrong, IsFirst, IsJudged, IsJudgedFault}
-use Rattle.cf_judge.specs.Calls.Tells.{IsKept, IsBroken, AreKept, IsFirstBroken}
-use Rattle.cf_judge.proofs.RisingLemmas.{IsBefore, AreRising, Rise}
+use Rattle.cf_judge.specs.Calls.Tells.{IsBroken, AreKept, IsFirstBroken}
+use Rattle.cf_judge.proofs.RisingLemmas.{IsBefore, AreRising}
 use Rattle.cf_judge.proofs.RiseLemmas.{file_rises}
 use Rattle.jv_list.proofs.MemberLemmas.{none_member, member_cases, first_member}
 use Rattle.std.proofs.lemmas.List.Elements.{Contains-append_right}

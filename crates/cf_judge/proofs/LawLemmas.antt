@@ -1,5 +1,5 @@
 -- A file is in order, or it has one first fault.
-use Rattle.std.proofs.Common.{◌≡◌, ℕ, ◌≤◌, List, [], ◌∷◌, get_or, Option, Some, None, refl, sym, ap, ◌∙◌, inl, inr}
+use Rattle.std.proofs.Common.{◌≡◌, ℕ, ◌≤◌, List, [], ◌∷◌, get_or, Some, None, refl, sym, ap, ◌∙◌, inl, inr}
 use Rattle.std.proofs.Common.{◌⊎◌, arith}
 use Rattle.jv_base.specs.Laws.{FormsDecided}
 use Rattle.cf_pool.specs.declared.entry.PoolEntry.{PoolEntry}
@@ -9,7 +9,7 @@ use Rattle.cf_pool.specs.declared.fault.Fault.{Fault}
 use Rattle.cf_structure.specs.Raw.{RawFile}
 use Rattle.cf_judge.specs.Words.{rank}
 use Rattle.cf_judge.specs.Demands.{Demand, demands}
-use Rattle.cf_judge.specs.Judged.{Breaks, IsFirst, IsJudged, IsJudgedFault}
+use Rattle.cf_judge.specs.Judged.{Breaks, IsFirst}
 use Rattle.cf_judge.specs.Laws.{OneJudgementOf}
 use Rattle.cf_judge.specs.Calls.Tells.{IsKept, IsBroken, AreKept, IsFirstBroken}
 use Rattle.cf_judge.proofs.JudgedLemmas.{judged, judged_fault}

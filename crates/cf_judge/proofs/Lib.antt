@@ -13,3 +13,4 @@ pub mod RiseLemmas
 pub mod JudgedLemmas
 pub mod WordLemmas
 pub mod LawLemmas
+pub mod StandardFacts

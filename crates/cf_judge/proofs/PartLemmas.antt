@@ -1,17 +1,15 @@
 -- Parts of a structure, each behind the one before it.
-use Rattle.std.proofs.Common.{◌≡◌, ℕ, ◌+◌, List, [], ◌∷◌, ◌++◌, length, Result, Ok, Err, refl, subst, arith}
+use Rattle.std.proofs.Common.{◌≡◌, ℕ, ◌+◌, List, [], ◌∷◌, length, Result, refl, subst, arith}
 use Rattle.std.proofs.Common.{length-append, add_assoc}
 use Rattle.std.specs.List.{flat_map}
 use Rattle.cf_pool.specs.declared.entry.PoolEntry.{PoolEntry}
 use Rattle.cf_structure.specs.declared.fault.ClassFault.{ClassFault}
-use Rattle.cf_structure.specs.Raw.{RawCode, RawAttribute, RawMember, RawClass}
+use Rattle.cf_structure.specs.Raw.{RawCode, RawAttribute, RawMember}
 use Rattle.cf_structure.specs.Spelled.{row_text, skipped_text, code_text, body_text, attribute_text, member_text}
-use Rattle.cf_structure.specs.Spelled.{class_text, two}
 use Rattle.cf_structure.specs.ClassFile.{Names}
 use Rattle.cf_judge.specs.Demands.{Demand, many_demands, attribute_name, row_demands, skipped_demands, rows_place}
-use Rattle.cf_judge.specs.declared.index.Wanted.TheVariants.{Formed, PlainClass}
+use Rattle.cf_judge.specs.declared.index.Wanted.TheVariants.{Formed}
 use Rattle.cf_judge.specs.declared.member.MemberKind.{MemberKind}
-use Rattle.cf_judge.specs.declared.member.MemberKind.TheVariants.{Field, Method}
 use Rattle.cf_judge.specs.Demands.{code_demands, body_demands, attribute_demands, pair_demands, name_form, desc_form}
 use Rattle.cf_judge.specs.Demands.{flags_demands, named_demands, member_demands}
 use Rattle.cf_judge.specs.Calls.Tells.{AreKept, IsFirstBroken, Tells}

@@ -1,16 +1,15 @@
 -- The demands of each part of a file rise from its place up to its end.
-use Rattle.std.proofs.Common.{◌≡◌, ℕ, ◌+◌, ◌<◌, ◌≤◌, List, [], ◌∷◌, ◌++◌, length, refl, subst, ap, sym, ◌∙◌, arith}
-use Rattle.std.proofs.Common.{length-append}
+use Rattle.std.proofs.Common.{ℕ, ◌+◌, ◌≤◌, List, [], ◌∷◌, length, ap, arith}
 use Rattle.std.specs.List.{flat_map}
 use Rattle.cf_pool.specs.declared.entry.PoolEntry.{PoolEntry}
 use Rattle.cf_pool.specs.declared.entry.PoolEntry.TheVariants as entries
-use Rattle.cf_pool.specs.Spelling.{entry_text, pool_text}
+use Rattle.cf_pool.specs.Spelling.{entry_text}
 use Rattle.cf_structure.specs.declared.code.Row.{Row}
 use Rattle.cf_structure.specs.Raw.{RawSkipped, RawCode, RawBody, constant, code, skipped, RawAttribute, RawMember}
 use Rattle.cf_structure.specs.Raw.{RawClass}
 use Rattle.cf_structure.specs.Raw.{RawFile}
 use Rattle.cf_structure.specs.Spelled.{two, row_text, skipped_text, code_text, body_text, attribute_text, member_text}
-use Rattle.cf_structure.specs.Spelled.{class_text, file_text}
+use Rattle.cf_structure.specs.Spelled.{class_text}
 use Rattle.cf_judge.specs.declared.index.Wanted.{Wanted}
 use Rattle.cf_judge.specs.declared.member.MemberKind.{MemberKind}
 use Rattle.cf_judge.specs.declared.member.MemberKind.TheVariants as kinds

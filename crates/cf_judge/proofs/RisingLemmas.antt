@@ -1,6 +1,6 @@
 -- The demands of a file stand in the order of their places, and at one place in the order of their words.
 use Rattle.std.proofs.Common.{◌≡◌, ℕ, ◌+◌, ◌<◌, ◌≤◌, List, [], ◌∷◌, ◌++◌, length, refl, subst, inl, inr, ◌⊎◌, arith}
-use Rattle.std.proofs.Common.{length-append, add_assoc, add-zero, ap, sym}
+use Rattle.std.proofs.Common.{length-append}
 use Rattle.std.specs.List.{flat_map, AllByRecursion}
 use Rattle.cf_pool.specs.declared.entry.PoolEntry.{PoolEntry}
 use Rattle.cf_pool.specs.declared.fault.What.{What}

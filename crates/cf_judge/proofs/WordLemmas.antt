@@ -3,7 +3,6 @@ use Rattle.std.proofs.Common.{◌≡◌, ◌≢◌, ℕ, ◌≤◌, List, [], �
 use Rattle.std.proofs.Common.{inr, ◌⊎◌}
 use Rattle.std.proofs.Common.{arith, codes}
 use Rattle.std.specs.Prelude.{slice_get}
-use Rattle.std.specs.List.{Contains}
 use Rattle.jv_base.specs.Laws.{FormsDecided}
 use Rattle.cf_pool.specs.declared.entry.PoolEntry.{PoolEntry}
 use Rattle.cf_pool.specs.declared.entry.PoolEntry.TheVariants as entries
@@ -15,7 +14,7 @@ use Rattle.cf_judge.specs.declared.form.Form.TheVariants as forms
 use Rattle.cf_judge.specs.declared.index.Wanted.{Wanted}
 use Rattle.cf_judge.specs.declared.index.Wanted.TheVariants as wanted
 use Rattle.cf_judge.specs.Forms.{Spell, HasText, HasForm, HaveOneText}
-use Rattle.cf_judge.specs.Indices.{word_of, HasNoText, LacksForm, HasClass, IsClassAt, HasPlainClass, HasNameAndType}
+use Rattle.cf_judge.specs.Indices.{word_of, HasNoText, LacksForm, IsClassAt, HasPlainClass}
 use Rattle.cf_judge.specs.Indices.{IsNameAndTypeAt, IsOfOtherKind, IsWrongIndex, Fits, FitsField}
 use Rattle.cf_judge.specs.Words.{rank}
 use Rattle.cf_judge.specs.Demands.{Rule, finds, fits, is_new, has_codes}

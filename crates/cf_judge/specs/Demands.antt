@@ -1,16 +1,15 @@
 -- What the format demands of each field of a class file behind its structure (JVM Specification SE 8, 4.1, 4.4 to 4.7), at
 -- the place of the field, in file order.
-use Rattle.std.specs.Prelude.{◌≡◌, ℕ, ◌+◌, Bool, true, false, List, [], ◌∷◌, ◌++◌, length}
+use Rattle.std.specs.Prelude.{ℕ, ◌+◌, Bool, true, false, List, [], ◌∷◌, ◌++◌, length}
 use Rattle.std.specs.List.{flat_map, count_by}
 use Rattle.cf_pool.specs.declared.entry.PoolEntry.{PoolEntry}
-use Rattle.cf_pool.specs.declared.entry.PoolEntry.TheVariants.{Utf8, Integer, Float, Long, Double, Class, Str, Field}
-use Rattle.cf_pool.specs.declared.entry.PoolEntry.TheVariants.{Method, InterfaceMethod, NameAndType, MethodHandle}
-use Rattle.cf_pool.specs.declared.entry.PoolEntry.TheVariants.{MethodType, InvokeDynamic, Unusable}
+use Rattle.cf_pool.specs.declared.entry.PoolEntry.TheVariants.{Class, Str, Field}
+use Rattle.cf_pool.specs.declared.entry.PoolEntry.TheVariants.{Method, InterfaceMethod, NameAndType}
 use Rattle.cf_pool.specs.Spelling.{entry_text}
 use Rattle.cf_structure.specs.declared.code.Row.{Row}
 use Rattle.cf_structure.specs.Raw.{RawSkipped, RawCode, RawBody, constant, code, skipped, RawAttribute, RawMember}
 use Rattle.cf_structure.specs.Raw.{RawClass, RawFile}
-use Rattle.cf_structure.specs.Spelled.{two, row_text, skipped_text, attribute_text, member_text, counted_text}
+use Rattle.cf_structure.specs.Spelled.{two, row_text, skipped_text, attribute_text, member_text}
 use Rattle.cf_judge.specs.declared.form.Form.{Form}
 use Rattle.cf_judge.specs.declared.form.Form.TheVariants as forms
 use Rattle.cf_judge.specs.declared.index.Wanted.{Wanted}
@@ -157,6 +156,7 @@ header_demands place c =
     pair_demands (place + 2) wanted.PlainClass c.this_class wanted.PlainClass c.super_class
     ++ many_demands index_demands two (place + 8) c.interfaces
 
+-- what stands behind the pool; no ConstantValue counts among its attributes, so that no descriptor is asked for
 abbrev pub class_demands : ℕ → RawClass → List Demand
 class_demands place c =
     header_demands place c

@@ -1,5 +1,5 @@
 -- The texts of a pool, each with the forms that it has.
-use Rattle.std.specs.Prelude.{◌≡◌, ◌↔◌, ℕ, ◌≤◌, List, Bool, ◌||◌, IsTrue, Option, Some, None, IfSome, IfNone, slice_get}
+use Rattle.std.specs.Prelude.{◌↔◌, ℕ, ◌≤◌, List, Bool, ◌||◌, IsTrue, Option, Some, None, IfSome, IfNone, slice_get}
 use Rattle.cf_pool.specs.declared.entry.PoolEntry.{PoolEntry}
 use Rattle.cf_pool.specs.declared.entry.PoolEntry.TheVariants.{Utf8}
 use Rattle.cf_judge.specs.declared.form.Form.{Form}
@@ -39,12 +39,14 @@ pub record IsTextFor (pool : List PoolEntry) (units : List ℕ) (t : Text) : Typ
   pub none : IfNone t.name ((name : List ℕ) → IsNameOf units name → ⊥)
   pub first : IsFirstIndex pool units t.first
 
--- what stands in a table of texts for what stands in the pool
+-- what stands in a table of texts for what stands in the pool: for a text that text, for another entry none
 abbrev pub IsTextOf : List PoolEntry → Option PoolEntry → Option (Option Text) → Type 0
 IsTextOf pool (Some (Utf8 units)) (Some (Some t)) = IsTextFor pool units t
 IsTextOf pool (Some (Utf8 units)) o = ⊥
-IsTextOf pool e (Some (Some t)) = ⊥
-IsTextOf pool e o = Unit {0}
+IsTextOf pool (Some e) (Some None) = Unit {0}
+IsTextOf pool None None = Unit {0}
+IsTextOf pool e o = ⊥
 
+-- the table has the texts of the pool, at the same indices
 abbrev pub AreTexts : List PoolEntry → List (Option Text) → Type 0
 AreTexts pool texts = (index : ℕ) → IsTextOf pool (slice_get pool index) (slice_get texts index)

@@ -17,4 +17,5 @@ pub use form::Form;
 pub use index::{Wanted, wrong_index};
 pub use laws::one_judgement;
 pub use member::MemberKind;
+pub use size::entry_size;
 pub use text::{Forms, Text};

@@ -25,6 +25,7 @@ const NATIVE: u16 = 0x100;
 
 const ABSTRACT: u16 = 0x400;
 
+/// Whether a member is a field or a method.
 #[derive(Clone, Copy, Debug, PartialEq, Eq)]
 pub enum MemberKind {
     Field,

@@ -29,7 +29,7 @@ fn units_size(units: &[u16]) -> u64
 }
 
 /// An entry of the pool with its tag. What stands at an index without an entry takes none.
-pub(crate) fn entry_size(entry: &PoolEntry) -> u64
+pub fn entry_size(entry: &PoolEntry) -> u64
     requires { length (entry_text entry.now) < 2 ^ 64 }
     ensures { result ≡ length (entry_text entry.now) }
 {

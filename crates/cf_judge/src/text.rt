@@ -119,8 +119,8 @@ fn first_of<'a>(
     Ok(index)
 }
 
-/// The text at an index, where one stands there.
-fn entry_text_of<'a>(
+/// The text that an entry at an index is, if it is one.
+fn text_of_entry<'a>(
     alloc: Global,
     firsts: &mut HashMap<&'a [u16], usize>,
     entry: &'a PoolEntry,
@@ -148,7 +148,7 @@ pub(crate) fn texts_of(alloc: Global, pool: &[PoolEntry]) -> Mem<List<Option<Tex
     let mut firsts = HashMap::new(alloc);
     let mut texts = List::new(alloc);
     for (index, entry) in pool.iter().enumerate() {
-        texts.add(entry_text_of(alloc, &mut firsts, entry, index)?)?;
+        texts.add(text_of_entry(alloc, &mut firsts, entry, index)?)?;
     }
     Ok(texts)
 }

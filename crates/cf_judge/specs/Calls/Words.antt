@@ -1,5 +1,5 @@
 -- The first word for what is wrong.
-use Rattle.std.specs.Prelude.{ℕ, ◌≤◌, Option, Some, None}
+use Rattle.std.specs.Prelude.{◌≤◌, Option, Some, None}
 use Rattle.cf_pool.specs.declared.fault.What.{What}
 use Rattle.cf_judge.specs.Words.{rank}
 

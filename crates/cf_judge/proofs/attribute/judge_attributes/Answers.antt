@@ -1,4 +1,4 @@
-use Rattle.std.proofs.Common.{ℕ, ◌≤◌, List, arith}
+use Rattle.std.proofs.Common.{ℕ, List, arith}
 use Rattle.std.proofs.lemmas.Result.{err_from_is_err_and}
 use Rattle.cf_structure.specs.declared.attribute.AttributePart.{AttributePart}
 use Rattle.cf_structure.specs.Raw.{RawAttribute}

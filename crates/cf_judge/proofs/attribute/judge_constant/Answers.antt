@@ -1,8 +1,5 @@
-use Rattle.std.proofs.Common.{◌≡◌, ◌+◌, [], ◌∷◌, refl, inl, sym, ap, arith, ◌∙◌}
+use Rattle.std.proofs.Common.{refl, inl, sym, ap, arith, ◌∙◌}
 use Rattle.std.proofs.lemmas.Bool.{false≢true}
-use Rattle.cf_pool.specs.declared.fault.What.TheVariants.{BadIndex}
-use Rattle.cf_structure.specs.declared.fault.ClassFault.TheVariants.{Malformed}
-use Rattle.cf_judge.specs.Demands.{demand, fits}
 use Rattle.cf_judge.specs.Words.{rank}
 use Rattle.cf_judge.specs.Calls.Tells.{AreKept, IsFirstBroken}
 use Rattle.cf_judge.proofs.attribute.judge_constant.Goals as goal

@@ -1,6 +1,6 @@
-use Rattle.std.proofs.Common.{◌≡◌, ℕ, List, [], ◌∷◌, ◌+◌, sym, subst, arith}
+use Rattle.std.proofs.Common.{◌≡◌, ℕ, [], ◌∷◌, ◌+◌, subst, arith}
 use Rattle.std.proofs.lemmas.Result.{err_from_is_err_and}
-use Rattle.cf_judge.specs.Demands.{Demand, demand, finds}
+use Rattle.cf_judge.specs.Demands.{demand, finds}
 use Rattle.cf_judge.specs.Calls.Tells.{Tells}
 use Rattle.cf_judge.proofs.TellsLemmas.{refused_front, tells_behind, ends_at}
 use Rattle.cf_judge.proofs.index.judge_pair.Goals as goal

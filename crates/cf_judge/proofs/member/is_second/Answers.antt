@@ -1,4 +1,3 @@
-use Rattle.std.proofs.Common.{not, IsTrue, sym, ◌∙◌, ap}
 use Rattle.std.proofs.lemmas.Bool.{false≢true}
 use Rattle.cf_structure.specs.Views.{member_of}
 use Rattle.cf_judge.proofs.KeyLemmas.{twice, has_some_key, seen_second, seen_still, seen_more}

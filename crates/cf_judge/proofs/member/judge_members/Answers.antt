@@ -1,8 +1,7 @@
-use Rattle.std.proofs.Common.{◌≡◌, ℕ, ◌+◌, ◌≤◌, List, [], ◌∷◌, ◌++◌, map, take, ap, ◌∙◌, arith}
+use Rattle.std.proofs.Common.{◌≡◌, ℕ, ◌+◌, List, [], ◌∷◌, ◌++◌, map, take, ap, ◌∙◌, arith}
 use Rattle.std.proofs.lemmas.List.{map_push}
 use Rattle.std.proofs.lemmas.Result.{err_from_is_err_and}
 use Rattle.cf_structure.specs.declared.member.MemberPart.{MemberPart}
-use Rattle.cf_structure.specs.Raw.{RawMember}
 use Rattle.cf_structure.specs.Spelled.{member_text}
 use Rattle.cf_structure.specs.Views.{member_of}
 use Rattle.cf_judge.specs.declared.member.MemberKind.{MemberKind}

@@ -1,5 +1,4 @@
-use Rattle.std.proofs.Common.{◌+◌, ◌≤◌, length, take, get_or, arith}
-use Rattle.std.specs.List.{flat_map}
+use Rattle.std.proofs.Common.{arith}
 use Rattle.std.proofs.lemmas.List.Folds.{length-flat_map-take}
 use Rattle.cf_pool.specs.ModifiedUtf8.{encoded_unit}
 use Rattle.cf_judge.proofs.size.units_size.Goals as goal

@@ -1,4 +1,4 @@
-use Rattle.std.proofs.Common.{sym, ap, ◌∙◌, is_err}
+use Rattle.std.proofs.Common.{sym, ◌∙◌}
 use Rattle.cf_judge.proofs.FormLemmas.{paired_name, no_name}
 use Rattle.cf_judge.proofs.text.name_of.Goals as goal
 

@@ -1,4 +1,4 @@
-use Rattle.std.proofs.Common.{◌≡◌, ℕ, ◌+◌, ◌<◌, ◌≤◌, List, Option, Some, None, length, get_or, sym, subst, ◌∙◌, ◌++◌}
+use Rattle.std.proofs.Common.{◌≡◌, ℕ, ◌+◌, ◌<◌, ◌≤◌, List, Option, Some, length, get_or, sym, subst, ◌∙◌, ◌++◌}
 use Rattle.std.proofs.Common.{◌∷◌, []}
 use Rattle.std.proofs.Common.{inl, inr, ap, arith, length-append}
 use Rattle.std.specs.Prelude.{slice_get}
@@ -41,10 +41,10 @@ loop-index-preserved c =
     let e = c.index-pool-index.result in
     let here : slice_get c.args.pool.now l.index ≡ Some e =
     slice_get-get_or c.args.pool.now l.index e c.loop-index-test.true ∙ ap (λ x. Some x) (sym c.index-pool-index.is) in
-    let t = c.in_ok-entry_text_of.field-0 in
-    let text = c.in_ok-entry_text_of.ensures.text c.args.pool.now l.invariant.firsts here in
+    let t = c.in_ok-text_of_entry.field-0 in
+    let text = c.in_ok-text_of_entry.ensures.text c.args.pool.now l.invariant.firsts here in
     record {
-      firsts = c.in_ok-entry_text_of.ensures.firsts c.args.pool.now l.invariant.firsts here;
+      firsts = c.in_ok-text_of_entry.ensures.firsts c.args.pool.now l.invariant.firsts here;
       count = rw c.in_ok-add.ensures.ok (omega (arith, length-append l.texts (t ∷ [])));
       texts =
           rw c.in_ok-add.ensures.ok (one_more c.args.pool.now l.texts l.index l.invariant.count t l.invariant.texts

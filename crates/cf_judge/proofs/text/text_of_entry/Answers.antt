@@ -1,10 +1,10 @@
-use Rattle.std.proofs.Common.{◌≡◌, ℕ, List, Some, sym, ap, ◌∙◌, subst, unwrap_or}
+use Rattle.std.proofs.Common.{ℕ, List, Some, sym, ap, ◌∙◌, subst}
 use Rattle.cf_pool.specs.declared.entry.PoolEntry.TheVariants.{Utf8}
 use Rattle.cf_judge.specs.Forms.{HasText}
 use Rattle.cf_judge.specs.Texts.{IsFirstIndex}
-use Rattle.cf_judge.specs.Calls.Firsts.{first_in, IsKnownText}
+use Rattle.cf_judge.specs.Calls.Firsts.{first_in}
 use Rattle.cf_judge.proofs.FirstLemmas.{first_index, known_text}
-use Rattle.cf_judge.proofs.text.entry_text_of.Goals as goal
+use Rattle.cf_judge.proofs.text.text_of_entry.Goals as goal
 
 pub returns-in_ok-text_of-in-Utf8-clause-text : goal.returns-in_ok-text_of-in-Utf8-clause-text
 returns-in_ok-text_of-in-Utf8-clause-text c = λ pool firsts stands.
