@@ -5,6 +5,7 @@ pub mod CutLemmas
 pub mod LengthLemmas
 pub mod PieceLemmas
 pub mod PlaceLemmas
+pub mod EachLemmas
 pub mod ElementLemmas
 pub mod TestLemmas
 pub mod TextLemmas
