@@ -81,7 +81,7 @@ same_fault a b p w =
     ap (λ (n : ℕ). record { place = n; what = a.what }) p ∙ ap (λ (x : What). record { place = b.place; what = x }) w
 
 -- of two faults neither is before the other only where they are the same
-one_first : (a b : Fault) → IsFirst a b → IsFirst b a → a ≡ b
+pub one_first : (a b : Fault) → IsFirst a b → IsFirst b a → a ≡ b
 one_first a b (inl lt) (inl gt) = absurd (omega arith)
 one_first a b (inl lt) (inr h) = absurd (omega (arith, h.0))
 one_first a b (inr h) (inl gt) = absurd (omega (arith, h.0))

@@ -104,7 +104,7 @@ module _ (law : FormsDecided) (pool : List PoolEntry) where
           (λ h s. h.2 (subst (Spell form) (sym (one_text i h.0 t.0 h.1 t.1)) s)) (neither _ (spell law form t.0))
       by_text (inr none) = inr (λ h. none (h.0, h.1))
 
-  plain_class : (i : ℕ) → Decided (HasPlainClass pool i)
+  pub plain_class : (i : ℕ) → Decided (HasPlainClass pool i)
   plain_class i = by_class (class_of (slice_get pool i))
     where
       same_class : (a b : ℕ) → Some (entries.Class a) ≡ Some (entries.Class b) → a ≡ b

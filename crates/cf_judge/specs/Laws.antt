@@ -1,8 +1,10 @@
 -- What holds of the definitions: a file is in order, or it has one first fault, and not both.
-use Rattle.std.specs.Prelude.{◌≡◌, ◌⊎◌}
+use Rattle.std.specs.Prelude.{◌≡◌, ◌⊎◌, ℕ, List}
+use Rattle.cf_pool.specs.declared.entry.PoolEntry.{PoolEntry}
 use Rattle.cf_pool.specs.declared.fault.Fault.{Fault}
 use Rattle.cf_structure.specs.Raw.{RawFile}
-use Rattle.cf_judge.specs.Judged.{IsJudged, IsJudgedFault}
+use Rattle.cf_judge.specs.Indices.{HasPlainClass}
+use Rattle.cf_judge.specs.Judged.{IsFirst, IsJudged, IsJudgedFault}
 
 pub record OneJudgementOf (file : RawFile) : Type 0 where
   pub one : IsJudged file ⊎ ((fault : Fault) × IsJudgedFault file fault)
@@ -11,3 +13,11 @@ pub record OneJudgementOf (file : RawFile) : Type 0 where
 
 abbrev pub OneJudgement : Type 0
 OneJudgement = (file : RawFile) → OneJudgementOf file
+
+-- at an index there is a class that is no array, or there is none
+abbrev pub PlainClassDecided : Type 0
+PlainClassDecided = (pool : List PoolEntry) (index : ℕ) → HasPlainClass pool index ⊎ (HasPlainClass pool index → ⊥)
+
+-- of two faults each is not behind the other only where they are the same
+abbrev pub OneFirst : Type 0
+OneFirst = (a b : Fault) → IsFirst a b → IsFirst b a → a ≡ b

@@ -1,5 +1,5 @@
 // Laws of the definitions.
-ghost use Rattle.cf_judge.specs.Laws.{OneJudgement};
+ghost use Rattle.cf_judge.specs.Laws.{OneJudgement, PlainClassDecided, OneFirst};
 
 use jv_base::forms_decided;
 
@@ -9,3 +9,15 @@ pub fn one_judgement()
 {
     forms_decided();
 }
+
+/// At an index there is a class that is no array, or there is none.
+pub fn plain_class_decided()
+    ensures { PlainClassDecided }
+{
+    forms_decided();
+}
+
+/// Of two faults each is not behind the other only where they are the same.
+pub fn one_first()
+    ensures { OneFirst }
+{}

@@ -6,6 +6,7 @@ pub mod LengthLemmas
 pub mod PieceLemmas
 pub mod PlaceLemmas
 pub mod EachLemmas
+pub mod FirstLemmas
 pub mod ElementLemmas
 pub mod TestLemmas
 pub mod TextLemmas
