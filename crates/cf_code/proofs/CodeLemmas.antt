@@ -19,13 +19,18 @@ use Rattle.cf_code.proofs.StartLemmas.{one_starts}
 
 -- ---- the starts of a code
 
--- what a placed instruction and the rest of a code are, by the bytes from its pc on
+-- the bytes of a placed instruction have its size, whatever follows them
+pub placed_sized : (pc : ℕ) (placed : Placed) (rest : List ℕ) → placed.pc ≡ pc → FitsPlaced placed
+    → HasSize pc (placed_spelling placed ++ rest) (length (placed_spelling placed))
+placed_sized pc placed rest is fits =
+    let bytes = placed_spelling placed in
+    let has = instr_has_size placed.pc bytes rest placed.instr (refl, fits) in
+    subst (λ (n : ℕ). HasSize n (bytes ++ rest) (length bytes)) is has
+
+-- the same of the first instruction of a code
 placed_at : (pc : ℕ) (placed : Placed) (rest : List Placed) → placed.pc ≡ pc → FitsPlaced placed
     → HasSize pc (code_spelling (placed ∷ rest)) (length (placed_spelling placed))
-placed_at pc placed rest is fits =
-    let bytes = placed_spelling placed in
-    let has = instr_has_size placed.pc bytes (code_spelling rest) placed.instr (refl, fits) in
-    subst (λ (n : ℕ). HasSize n (code_spelling (placed ∷ rest)) (length bytes)) is has
+placed_at pc placed rest is fits = placed_sized pc placed (code_spelling rest) is fits
 
 -- the bytes are a front and a code behind it, at a pc
 pub record Behind (bytes front : List ℕ) (pc : ℕ) (code : List Placed) : Type 0 where
@@ -113,7 +118,7 @@ same_placed : (x y : Placed) → x.pc ≡ y.pc → x.instr ≡ y.instr → x ≡
 same_placed x y p q = ap (λ (n : ℕ). placed_of n x.instr) p ∙ ap (λ (i : Instr). placed_of y.pc i) q
 
 -- instructions at one pc, of the same bytes
-one_placed : (x y : Placed) → y.pc ≤ 2 ^ 31 → x.pc ≡ y.pc → FitsPlaced x → FitsPlaced y
+pub one_placed : (x y : Placed) → y.pc ≤ 2 ^ 31 → x.pc ≡ y.pc → FitsPlaced x → FitsPlaced y
     → placed_spelling x ≡ placed_spelling y → x ≡ y
 one_placed x y reach p a b is =
     let fits = subst (λ (n : ℕ). Fits n x.instr) p a in

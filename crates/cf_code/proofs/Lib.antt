@@ -17,6 +17,7 @@ pub mod SizeLemmas
 pub mod StartLemmas
 pub mod FaultLemmas
 pub mod CodeLemmas
+pub mod BeginLemmas
 pub mod PlaceLemmas
 pub mod PairLemmas
 pub mod WayLemmas

@@ -67,10 +67,10 @@ module _ (bytes : List ℕ) where
   -- ---- one list of starts
 
   -- at a stop no instruction begins
-  abbrev Ends : ℕ → Type 0
+  abbrev pub Ends : ℕ → Type 0
   Ends stop = (stop ≡ length bytes) ⊎ ((size : ℕ) → HasSize stop (drop stop bytes) size → ⊥)
 
-  no_more : (stop size : ℕ) → Ends stop → HasSize stop (drop stop bytes) size → ⊥
+  pub no_more : (stop size : ℕ) → Ends stop → HasSize stop (drop stop bytes) size → ⊥
   no_more stop size (inl is) h =
       subst (λ (b : List ℕ). HasSize stop b size) (drop_all stop bytes (omega (arith, is))) h
   no_more stop size (inr none) h = none size h

@@ -1,10 +1,11 @@
 -- What holds of all bytes.
 use Rattle.std.specs.Prelude.{◌≡◌, ◌⊎◌, ◌<◌, ◌^◌, ℕ, List, ◌++◌, length}
 use Rattle.cf_code.specs.declared.code.Placed.{Placed}
+use Rattle.cf_code.specs.declared.decoding.End.{End}
 use Rattle.cf_code.specs.declared.instr.Instr.{Instr}
 use Rattle.cf_code.specs.Instr.{IsInstr}
 use Rattle.cf_code.specs.Sizes.{HasSize}
-use Rattle.cf_code.specs.Decoding.{IsCode, HasBadOpcode, HasBadTarget}
+use Rattle.cf_code.specs.Decoding.{IsCode, HasBadOpcode, HasBadTarget, BeginsWith, EndsAs}
 
 -- the bytes of an instruction have its size, whatever follows them
 abbrev pub HasItsSize : Type 0
@@ -23,3 +24,9 @@ pub record IsOneFault : Type 0 where
   pub opcode : (bytes : List ℕ) (a b : ℕ) → HasBadOpcode bytes a → HasBadOpcode bytes b → a ≡ b
   pub target : (bytes : List ℕ) (a b : ℕ) → HasBadTarget bytes a → HasBadTarget bytes b → a ≡ b
   pub both : (bytes : List ℕ) (a b : ℕ) → HasBadOpcode bytes a → HasBadTarget bytes b → ⊥
+
+-- what bytes begin with is the front of the instructions that stand before their end or their first fault
+abbrev pub IsOneBeginning : Type 0
+IsOneBeginning = (bytes : List ℕ) → length bytes < 2 ^ 16 → (code : List Placed) (end : End) → BeginsWith bytes code → EndsAs bytes code end
+    → (other : List Placed) → BeginsWith bytes other
+    → (more : List Placed) × (code ≡ other ++ more)

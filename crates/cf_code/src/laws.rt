@@ -1,5 +1,5 @@
 // Laws of the code of a method.
-ghost use Rattle.cf_code.specs.Laws.{HasItsSize, IsOneCode, IsNoCode, IsOneFault};
+ghost use Rattle.cf_code.specs.Laws.{HasItsSize, IsOneCode, IsNoCode, IsOneFault, IsOneBeginning};
 
 /// What is an instruction has the size that its opcode and its operands tell.
 pub fn one_size()
@@ -20,4 +20,9 @@ pub fn no_code()
 /// Bytes have one fault at most.
 pub fn one_fault()
     ensures { IsOneFault }
+{}
+
+/// What bytes begin with is the front of what `walk` gives.
+pub fn one_beginning()
+    ensures { IsOneBeginning }
 {}
