@@ -30,7 +30,7 @@ use Rattle.cf_code.proofs.SwitchLemmas.{one_table, one_lookup, table_sized, look
 -- ---- one instruction
 
 -- a plain instruction is read back from its bytes
-plain_back : (pc : ℕ) (i : Instr) → pc ≤ 2 ^ 31 → IsPlain i → Fits pc i → read pc (spelling pc i) ≡ i
+pub plain_back : (pc : ℕ) (i : Instr) → pc ≤ 2 ^ 31 → IsPlain i → Fits pc i → read pc (spelling pc i) ≡ i
 plain_back pc Nop reach plain a = refl
 plain_back pc (Constant c) reach plain a = constant_back pc c a
 plain_back pc (Local l) reach plain a = local_back pc l a

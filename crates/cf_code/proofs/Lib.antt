@@ -1,3 +1,4 @@
+pub mod ListLemmas
 pub mod ReadLemmas
 pub mod ByteLemmas
 pub mod OpcodeLemmas
@@ -15,10 +16,15 @@ pub mod SwitchLemmas
 pub mod InstrLemmas
 pub mod SizeLemmas
 pub mod StartLemmas
+pub mod IntLemmas
+pub mod SizeFoundLemmas
+pub mod SwitchBackLemmas
+pub mod FitLemmas
 pub mod FaultLemmas
 pub mod CodeLemmas
 pub mod BeginLemmas
 pub mod PlaceLemmas
+pub mod WalkedLemmas
 pub mod PairLemmas
 pub mod WayLemmas
 pub mod HandlerLemmas

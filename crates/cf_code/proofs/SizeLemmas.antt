@@ -43,7 +43,7 @@ one_lookup pc rest m n x y =
     omega (arith, x.is, y.is, x.long, y.long, second.0)
 
 module _ (pc opcode : ℕ) (rest : List ℕ) (m n : ℕ) where
-  one_operands : HasOperands pc opcode rest m → HasOperands pc opcode rest n → m ≡ n
+  pub one_operands : HasOperands pc opcode rest m → HasOperands pc opcode rest n → m ≡ n
   one_operands (inl x) (inl y) = one_table pc rest m n x.1 y.1
   one_operands (inl x) (inr (inl y)) = absurd (omega (arith, x.0, y.0))
   one_operands (inl x) (inr (inr (inl y))) = absurd (omega (arith, x.0, y.0))

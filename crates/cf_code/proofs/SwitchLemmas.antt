@@ -21,7 +21,7 @@ use Rattle.cf_code.proofs.OpcodeLemmas.{all_there}
 
 -- ---- one switch
 
-abbrev case_of : ℤ → ℕ → Case
+abbrev pub case_of : ℤ → ℕ → Case
 case_of key target = record { key = key; target = target }
 
 one_pair : (pc : ℕ) (x y : Case) (r s : List ℕ) → pc ≤ 2 ^ 31 → FitsCase x → FitsCase y
@@ -34,10 +34,10 @@ one_pair pc x y r s reach a b is =
     let ends = one_far pc x.target y.target r s reach a.1 b.1 keys.1 in
     (ap (λ (z : ℤ). case_of z x.target) keys.0 ∙ ap (λ (n : ℕ). case_of y.key n) ends.0, ends.1)
 
-abbrev table_of : List ℕ → ℕ → ℤ → List ℕ → TableSwitch
+abbrev pub table_of : List ℕ → ℕ → ℤ → List ℕ → TableSwitch
 table_of padding default low targets = record { padding = padding; default = default; low = low; targets = targets }
 
-same_table : (s t : TableSwitch) → s.padding ≡ t.padding → s.default ≡ t.default → s.low ≡ t.low
+pub same_table : (s t : TableSwitch) → s.padding ≡ t.padding → s.default ≡ t.default → s.low ≡ t.low
     → s.targets ≡ t.targets → s ≡ t
 same_table s t a b d e =
     ap (λ (p : List ℕ). table_of p s.default s.low s.targets) a
@@ -62,10 +62,10 @@ one_table pc s t reach a b is =
     let targets = told_all (far pc) IsTwo tells s.targets t.targets x.are_pcs y.are_pcs (λ n r f e. cc) high.1 in
     same_table s t cut.0 default.0 low.0 targets
 
-abbrev lookup_of : List ℕ → ℕ → List Case → LookupSwitch
+abbrev pub lookup_of : List ℕ → ℕ → List Case → LookupSwitch
 lookup_of padding default cases = record { padding = padding; default = default; cases = cases }
 
-same_lookup : (s t : LookupSwitch) → s.padding ≡ t.padding → s.default ≡ t.default → s.cases ≡ t.cases → s ≡ t
+pub same_lookup : (s t : LookupSwitch) → s.padding ≡ t.padding → s.default ≡ t.default → s.cases ≡ t.cases → s ≡ t
 same_lookup s t a b d =
     ap (λ (p : List ℕ). lookup_of p s.default s.cases) a
     ∙ ap (λ (n : ℕ). lookup_of t.padding n s.cases) b

@@ -25,6 +25,10 @@ pub record IsOneFault : Type 0 where
   pub target : (bytes : List ℕ) (a b : ℕ) → HasBadTarget bytes a → HasBadTarget bytes b → a ≡ b
   pub both : (bytes : List ℕ) (a b : ℕ) → HasBadOpcode bytes a → HasBadTarget bytes b → ⊥
 
+-- as many bytes as that begin with instructions, up to their end or their first fault
+abbrev pub IsCodeDecided : Type 0
+IsCodeDecided = (bytes : List ℕ) → length bytes < 2 ^ 16 → (code : List Placed) × (end : End) × BeginsWith bytes code × EndsAs bytes code end
+
 -- what bytes begin with is the front of the instructions that stand before their end or their first fault
 abbrev pub IsOneBeginning : Type 0
 IsOneBeginning = (bytes : List ℕ) → length bytes < 2 ^ 16 → (code : List Placed) (end : End) → BeginsWith bytes code → EndsAs bytes code end

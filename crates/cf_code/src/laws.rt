@@ -1,5 +1,5 @@
 // Laws of the code of a method.
-ghost use Rattle.cf_code.specs.Laws.{HasItsSize, IsOneCode, IsNoCode, IsOneFault, IsOneBeginning};
+ghost use Rattle.cf_code.specs.Laws.{HasItsSize, IsOneCode, IsNoCode, IsOneFault, IsCodeDecided, IsOneBeginning};
 
 /// What is an instruction has the size that its opcode and its operands tell.
 pub fn one_size()
@@ -20,6 +20,12 @@ pub fn no_code()
 /// Bytes have one fault at most.
 pub fn one_fault()
     ensures { IsOneFault }
+{}
+
+/// As many bytes as the code of a method may have begin with instructions, up to their end or their first fault: what
+/// `walk` gives is there, also where memory is short.
+pub fn code_decided()
+    ensures { IsCodeDecided }
 {}
 
 /// What bytes begin with is the front of what `walk` gives.

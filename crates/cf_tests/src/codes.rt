@@ -4,8 +4,8 @@ ghost use Rattle.cf_code.specs.Instr.{Fits};
 use crate::tables::{bytes_of, rows, three_of, two_of};
 use cf_code::{
     Case, CodeFault, Constant, Instr, Jump, Local, LocalIndex, LookupSwitch, Placed, TableSwitch,
-    Word, all_fit, decode, encode, fits, no_code, one_beginning, one_code, one_fault, one_size,
-    read_instr, walk,
+    Word, all_fit, code_decided, decode, encode, fits, no_code, one_beginning, one_code, one_fault,
+    one_size, read_instr, walk,
 };
 use jv_list::List;
 use std::process::Abort;
@@ -92,6 +92,7 @@ fn code_is_decoded_or_has_its_first_fault(rt: HostRuntime) {
     one_code();
     no_code();
     one_fault();
+    code_decided();
     one_beginning();
 }
 
