@@ -4,19 +4,20 @@ use Rattle.std.proofs.Common.{ap}
 use Rattle.std.proofs.Common.{subst, ◌∙◌, append_assoc, append-nil, length-append, arith}
 use Rattle.std.specs.List.{AllByRecursion}
 use Rattle.std.proofs.lemmas.List.{take-append-drop, drop-drop, drop_all, length-take-le, get_or-take, take_more}
-use Rattle.std.proofs.lemmas.List.{take_all}
+use Rattle.std.proofs.lemmas.List.{take_all, get_or_default}
 use Rattle.std.proofs.lemmas.List.Elements.{All-get_or, All-from_recursion}
 use Rattle.jv_list.proofs.PieceLemmas.{rest_is}
 use Rattle.cf_code.specs.Code.{code_spelling, AllFit}
 use Rattle.cf_code.specs.Decoding.{IsLaid, pcs, HasTargets, IsCode, FallsInto, HasStarts, IsGood, HasBadOpcode}
-use Rattle.cf_code.specs.Decoding.{HasBadTarget, BeginsWith}
+use Rattle.cf_code.specs.Decoding.{HasBadTarget, BeginsWith, EndsAs}
 use Rattle.cf_code.specs.Instr.{spelling, Fits, IsInstr}
 use Rattle.cf_code.specs.Sizes.{HasSize}
 use Rattle.cf_code.specs.Steps.Starts.{IsOnlyInstr}
 use Rattle.cf_code.specs.declared.code.Placed.{Placed}
+use Rattle.cf_code.specs.declared.decoding.End.TheVariants.{Whole, BadOpcode, BadTarget}
 use Rattle.cf_code.specs.declared.instr.Instr.{Instr}
 use Rattle.cf_code.proofs.SizeLemmas.{size_within}
-use Rattle.cf_code.proofs.StartLemmas.{earlier_index}
+use Rattle.cf_code.proofs.StartLemmas.{earlier_index, falls_take}
 
 -- at each of these starts stands an instruction whose targets are starts
 abbrev pub Places : List ℕ → List ℕ → List ℕ → List Placed → Type 0
@@ -148,7 +149,7 @@ module _ (bytes starts : List ℕ) where
 
   module _ (stop : ℕ) (ps : List Placed) (has : HasStarts bytes starts stop) where
     -- the code, where the instructions fill the bytes
-    pub code_whole : length bytes ≤ stop → Places bytes starts starts ps → IsCode bytes ps
+    code_whole : length bytes ≤ stop → Places bytes starts starts ps → IsCode bytes ps
     code_whole l h =
         let given = places_have_targets starts ps h in
         let targeted = λ (ss : List ℕ). AllByRecursion (λ (p : Placed). HasTargets ss p.instr) ps in
@@ -161,7 +162,7 @@ module _ (bytes starts : List ℕ) where
         }
 
     -- what the bytes begin with, up to a start or the stop
-    pub begins : (ss : List ℕ) (at : ℕ) → FallsInto bytes 0 ss at → Places bytes starts ss ps → BeginsWith bytes ps
+    begins : (ss : List ℕ) (at : ℕ) → FallsInto bytes 0 ss at → Places bytes starts ss ps → BeginsWith bytes ps
     begins ss at falls h = record {
       starts = starts;
       stop = stop;
@@ -173,17 +174,17 @@ module _ (bytes starts : List ℕ) where
       have_targets = places_have_targets ss ps h;
     }
 
-    pub begins_to : (ss : List ℕ) (at : ℕ) → FallsInto bytes 0 ss at → Places bytes starts ss ps
+    begins_to : (ss : List ℕ) (at : ℕ) → FallsInto bytes 0 ss at → Places bytes starts ss ps
         → at ≡ length (code_spelling ps)
     begins_to ss at falls h = omega (arith, (places_spelled 0 ss ps at falls h).1)
 
     -- no instruction begins where they stop
-    pub bad_opcode : stop < length bytes → Places bytes starts starts ps → HasBadOpcode bytes stop
+    bad_opcode : stop < length bytes → Places bytes starts starts ps → HasBadOpcode bytes stop
     bad_opcode inside h =
         record { starts = starts; has = has; inside = inside; good = places_good starts ps h }
 
     -- the start behind the good ones is not
-    pub bad_target : (k pc : ℕ) → k < length starts → pc ≡ get_or starts k pc
+    bad_target : (k pc : ℕ) → k < length starts → pc ≡ get_or starts k pc
         → Places bytes starts (take k starts) ps → (IsGood bytes starts pc → ⊥) → HasBadTarget bytes pc
     bad_target k pc kl ke h bad = record {
       starts = starts;
@@ -199,3 +200,42 @@ module _ (bytes starts : List ℕ) where
           let good = All-get_or (IsGood bytes starts) front is.0 early inside all in
           subst (λ (n : ℕ). IsGood bytes starts n) (get_or-take k starts is.0 early jk ∙ is.2) good;
     }
+
+    -- ---- where a walk ends, after so many starts, with these instructions
+
+    module _ (code : List Placed) (same : code ≡ ps) (k : ℕ) (h : Places bytes starts (take k starts) ps) where
+      -- at a start
+      pub begins_at : k < length starts → BeginsWith bytes code
+      begins_at lt =
+          let falls = falls_take bytes 0 starts stop k 0 has.falls lt in
+          let read = begins (take k starts) (get_or starts k 0) falls h in
+          subst (λ (qs : List Placed). BeginsWith bytes qs) (sym same) read
+
+      -- which is not good
+      pub ends_at : k < length starts → (IsGood bytes starts (get_or starts k 0) → ⊥)
+          → EndsAs bytes code (BadTarget (get_or starts k 0))
+      ends_at lt bad =
+          let at = get_or starts k 0 in
+          let falls = falls_take bytes 0 starts stop k 0 has.falls lt in
+          let to = begins_to (take k starts) at falls h in (
+            bad_target k at lt (get_or_default starts k 0 at lt) h bad,
+            to ∙ ap (λ (qs : List Placed). length (code_spelling qs)) (sym same),
+          )
+
+      -- behind the last start
+      pub begins_all : length starts ≤ k → BeginsWith bytes code
+      begins_all past =
+          let read = begins starts stop has.falls (places_all k ps past h) in
+          subst (λ (qs : List Placed). BeginsWith bytes qs) (sym same) read
+
+      -- where the bytes go on
+      pub ends_inside : length starts ≤ k → stop < length bytes → EndsAs bytes code (BadOpcode stop)
+      ends_inside past inside =
+          let all = places_all k ps past h in
+          let to = begins_to starts stop has.falls all in
+          (bad_opcode inside all, to ∙ ap (λ (qs : List Placed). length (code_spelling qs)) (sym same))
+
+      -- where they end
+      pub ends_whole : length starts ≤ k → length bytes ≤ stop → EndsAs bytes code Whole
+      ends_whole past le =
+          subst (λ (qs : List Placed). IsCode bytes qs) (sym same) (code_whole le (places_all k ps past h))

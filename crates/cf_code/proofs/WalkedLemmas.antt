@@ -2,7 +2,6 @@
 use Rattle.std.proofs.Common.{◌≡◌, ℕ, zero, suc, ◌+◌, ◌≤◌, ◌<◌, ◌^◌, List, [], ◌∷◌, ◌++◌, length, take, drop, get_or}
 use Rattle.std.proofs.Common.{refl, sym, ap, subst, ◌∙◌, inl, inr, ◌⊎◌, arith}
 use Rattle.std.specs.Prelude.{Contains}
-use Rattle.std.proofs.lemmas.List.{get_or_default}
 use Rattle.cf_code.specs.Decoding.{HasTargets, FallsInto, HasStarts, IsGood, BeginsWith, EndsAs}
 use Rattle.cf_code.specs.Instr.{spelling, Fits, IsInstr}
 use Rattle.cf_code.specs.Laws.{IsCodeDecided}
@@ -20,11 +19,10 @@ use Rattle.cf_code.proofs.FitLemmas.{instr_fits}
 use Rattle.cf_code.proofs.InstrLemmas.{plain_back, one_found}
 use Rattle.cf_code.proofs.ListLemmas.{Decided, both, below, lists, member, each}
 use Rattle.cf_code.proofs.OpcodeLemmas.{read}
-use Rattle.cf_code.proofs.PlaceLemmas.{Places, places_step, places_all, code_whole, begins, begins_to, bad_opcode}
-use Rattle.cf_code.proofs.PlaceLemmas.{bad_target}
+use Rattle.cf_code.proofs.PlaceLemmas.{Places, places_step, begins_at, ends_at, begins_all, ends_inside, ends_whole}
 use Rattle.cf_code.proofs.SizeFoundLemmas.{size_found}
 use Rattle.cf_code.proofs.SizeLemmas.{one_size, size_inside}
-use Rattle.cf_code.proofs.StartLemmas.{Ends, falls_take, start_inside}
+use Rattle.cf_code.proofs.StartLemmas.{Ends, start_inside}
 use Rattle.cf_code.proofs.SwitchBackLemmas.{table, lookup, table_back, lookup_back}
 
 -- ---- one instruction
@@ -147,20 +145,19 @@ abbrev Walked : List ℕ → Type 0
 Walked bytes = (code : List Placed) × (end : End) × BeginsWith bytes code × EndsAs bytes code end
 
 module _ (bytes starts : List ℕ) (stop : ℕ) (has : HasStarts bytes starts stop) (short : length bytes < 2 ^ 16) where
-  -- there is one at each start
-  walked_all : (ps : List Placed) → Places bytes starts starts ps → Walked bytes
-  walked_all ps h =
-      let to = begins_to bytes starts stop ps has starts stop has.falls h in
-      let read = begins bytes starts stop ps has starts stop has.falls h in
+  -- no start is left
+  walked_all : (k : ℕ) (ps : List Placed) → length starts ≤ k → Places bytes starts (take k starts) ps → Walked bytes
+  walked_all k ps past h =
+      let read = begins_all bytes starts stop ps has ps refl k h past in
       elim (below stop (length bytes)) [
-        | inl inside ↦ (ps, BadOpcode stop, read, (bad_opcode bytes starts stop ps has inside h, to))
-        | inr past ↦ (ps, Whole, read, code_whole bytes starts stop ps has (omega (arith, past)) h)
+        | inl inside ↦ (ps, BadOpcode stop, read, ends_inside bytes starts stop ps has ps refl k h past inside)
+        | inr beyond ↦ (ps, Whole, read, ends_whole bytes starts stop ps has ps refl k h past (omega (arith, beyond)))
       ]
 
   -- some starts are left
   walked_from : (left k : ℕ) (ps : List Placed) → k + left ≡ length starts → Places bytes starts (take k starts) ps
       → Walked bytes
-  walked_from zero k ps is h = walked_all ps (places_all bytes starts k ps (omega (arith, is)) h)
+  walked_from zero k ps is h = walked_all k ps (omega (arith, is)) h
   walked_from (suc left) k ps is h =
       let at = get_or starts k 0 in
       let lt : k < length starts = omega (arith, is) in
@@ -172,11 +169,8 @@ module _ (bytes starts : List ℕ) (stop : ℕ) (has : HasStarts bytes starts st
             walked_from left (k + 1) (ps ++ p ∷ []) (omega (arith, is))
             (places_step bytes starts k ps (ps ++ p ∷ []) p lt h refl only refl)
         | inr bad ↦
-            let here = get_or_default starts k 0 at lt in
-            let falls = falls_take bytes 0 starts stop k 0 has.falls lt in
-            let read = begins bytes starts stop ps has (take k starts) at falls h in
-            let to = begins_to bytes starts stop ps has (take k starts) at falls h in
-            (ps, BadTarget at, read, (bad_target bytes starts stop ps has k at lt here h bad, to))
+            let read = begins_at bytes starts stop ps has ps refl k h lt in
+            (ps, BadTarget at, read, ends_at bytes starts stop ps has ps refl k h lt bad)
       ]
 
 pub code_decided : IsCodeDecided
