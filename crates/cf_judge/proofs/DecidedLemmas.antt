@@ -18,43 +18,7 @@ use Rattle.cf_judge.specs.declared.form.Form.{Form}
 use Rattle.cf_judge.specs.declared.form.Form.TheVariants as forms
 use Rattle.cf_judge.specs.Forms.{IsNameOf, IsArrayDescriptor, IsOfForm, Spell}
 use Rattle.cf_judge.proofs.FormLemmas.{one_name, paired_name, no_name}
-use Rattle.jv_list.proofs.TestLemmas.{same_or_not}
-
--- it holds, or it does not
-abbrev pub Decided : Type 0 → Type 0
-Decided P = P ⊎ (P → ⊥)
-
-pub both : (P Q : Type 0) → Decided P → Decided Q → Decided (P × Q)
-both P Q (inl p) (inl q) = inl (p, q)
-both P Q (inl p) (inr not_q) = inr (λ h. not_q h.1)
-both P Q (inr not_p) q = inr (λ h. not_p h.0)
-
-pub either : (P Q : Type 0) → Decided P → Decided Q → Decided (P ⊎ Q)
-either P Q (inl p) q = inl (inl p)
-either P Q (inr not_p) (inl q) = inl (inr q)
-either P Q (inr not_p) (inr not_q) = inr (λ h. elim h [ inl p ↦ not_p p | inr q ↦ not_q q ])
-
-pub neither : (P : Type 0) → Decided P → Decided (P → ⊥)
-neither P (inl p) = inr (λ not_p. not_p p)
-neither P (inr not_p) = inl not_p
-
--- what is the same
-pub other : (P Q : Type 0) → (P → Q) → (Q → P) → Decided P → Decided Q
-other P Q to back (inl p) = inl (to p)
-other P Q to back (inr not_p) = inr (λ q. not_p (back q))
-
-pub numbers : (m n : ℕ) → Decided (m ≡ n)
-numbers m n = same_or_not m n (λ e. inl e) (λ e. inr e)
-
-pub below : (m n : ℕ) → Decided (m < n)
-below m n = elim (cases_lt m n) [ inl lt ↦ inl lt | inr ge ↦ inr (λ lt. omega arith) ]
-
-pub lists : (xs ys : List ℕ) → Decided (xs ≡ ys)
-lists xs ys = by_test (bytes_eq xs ys) refl
-  where
-    by_test : (b : Bool) → bytes_eq xs ys ≡ b → Decided (xs ≡ ys)
-    by_test true e = inl ((bytes_eq-Decides xs ys).0 e)
-    by_test false e = inr (λ same. false≢true (sym e ∙ (bytes_eq-Decides xs ys).1 same))
+use Rattle.jv_list.proofs.DecidedLemmas.{Decided, both, either, neither, other, numbers, below}
 
 all_bytes : (P : ℕ → Type 0) → ((b : ℕ) → Decided (P b)) → (bs : List ℕ) → Decided (All P bs)
 all_bytes P one [] = inl (All-nil P)

@@ -20,10 +20,9 @@ use Rattle.cf_judge.specs.Words.{rank}
 use Rattle.cf_judge.specs.Demands.{Rule, finds, fits, is_new, has_codes}
 use Rattle.cf_judge.specs.Judged.{IsSecond, HasNoBody, BreaksCodeRule, Breaks}
 use Rattle.cf_judge.specs.Calls.Words.{TellsWord}
-use Rattle.cf_judge.proofs.DecidedLemmas.{Decided, both, either, neither, other, numbers, lists, spell, text_of}
-use Rattle.cf_judge.proofs.DecidedLemmas.{class_of}
-use Rattle.cf_judge.proofs.DecidedLemmas.{pair_of}
+use Rattle.cf_judge.proofs.DecidedLemmas.{spell, text_of, class_of, pair_of}
 use Rattle.cf_judge.proofs.IndexLemmas.{kind_word, no_pair}
+use Rattle.jv_list.proofs.DecidedLemmas.{Decided, both, either, neither, other, numbers, lists}
 use Rattle.jv_list.proofs.MemberLemmas.{none_member, member_cases, first_member}
 use Rattle.std.proofs.lemmas.List.Elements.{Contains-append_right}
 

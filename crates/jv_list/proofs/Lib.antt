@@ -7,8 +7,10 @@ pub mod PieceLemmas
 pub mod PlaceLemmas
 pub mod EachLemmas
 pub mod FirstLemmas
+pub mod SearchLemmas
 pub mod ElementLemmas
 pub mod TestLemmas
 pub mod TextLemmas
 pub mod BitLemmas
 pub mod OnlyLemmas
+pub mod DecidedLemmas
