@@ -28,4 +28,5 @@ pub mod WalkedLemmas
 pub mod PairLemmas
 pub mod WayLemmas
 pub mod HandlerLemmas
+pub mod KindLemmas
 pub mod StandardFacts

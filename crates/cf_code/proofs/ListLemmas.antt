@@ -1,14 +1,15 @@
--- What is decided of numbers and lists, of any crate.
+-- What is decided of numbers and lists, and what passes a test: of any crate.
 use Rattle.std.proofs.Common.{◌≡◌, ℕ, zero, suc, ℤ, ◌+◌, ◌≤◌, ◌<◌, List, [], ◌∷◌, length, get_or, refl, sym}
-use Rattle.std.proofs.Common.{Bool, true, false, ◌∙◌, inl, inr, ◌⊎◌, subst, arith}
+use Rattle.std.proofs.Common.{Bool, true, false, cond, take, ◌++◌, append-nil, ap, ◌∙◌, inl, inr, ◌⊎◌, subst, arith}
 use Rattle.std.specs.Prelude.{◌≤ℤ◌, ◌<ℤ◌, Contains}
 use Rattle.std.specs.Int.{Width}
 use Rattle.std.specs.Int.RustNames.{FitsSigned}
-use Rattle.std.specs.List.{All, AllByRecursion, AllAdjacentBelow}
+use Rattle.std.specs.List.{All, AllByRecursion, AllAdjacentBelow, filter}
 use Rattle.std.specs.Str.{bytes_eq}
 use Rattle.std.proofs.lemmas.Bool.{false≢true, cases_lt}
 use Rattle.std.proofs.lemmas.Int.{by_lt_z, ints}
 use Rattle.std.proofs.lemmas.List.Elements.{All-from_recursion, recursion_from_All, Contains-append_right}
+use Rattle.std.proofs.lemmas.List.Elements.{filter_more}
 use Rattle.std.proofs.lemmas.Slice.Eq.{bytes_eq-Decides}
 use Rattle.jv_list.proofs.MemberLemmas.{none_member, member_cases, first_member}
 use Rattle.jv_list.proofs.TestLemmas.{same_or_not}
@@ -103,3 +104,53 @@ module _ {X : Type 0} where
             let e : suc k + 1 ≡ suc (k + 1) = omega arith in
             subst (λ (n : ℕ). R (get_or (y ∷ xs) k d) (get_or (x ∷ y ∷ xs) n d)) e (h (suc k) d (omega (arith, lt))),
       )
+
+-- ---- what passes a test
+
+module _ {X : Type 0} (p : X → Bool) where
+  first_passes : (b : Bool) (y x : X) (ys : List X) → b ≡ true → y ≡ x → Contains (cond b (y ∷ ys) ys) x
+  first_passes true y x ys pass e = subst (λ (z : X). Contains (y ∷ ys) z) e (first_member y ys)
+  first_passes false y x ys pass e = absurd (false≢true pass)
+
+  behind_first : (b : Bool) (y x : X) (ys : List X) → Contains ys x → Contains (cond b (y ∷ ys) ys) x
+  behind_first true y x ys h = Contains-append_right (y ∷ []) ys x h
+  behind_first false y x ys h = h
+
+  first_or_behind : (b : Bool) (y x : X) (ys : List X) → Contains (cond b (y ∷ ys) ys) x
+      → ((b ≡ true) × (y ≡ x)) ⊎ Contains ys x
+  first_or_behind true y x ys h = elim (member_cases y ys x h) [ inl e ↦ inl (refl, e) | inr more ↦ inr more ]
+  first_or_behind false y x ys h = inr h
+
+  -- an element that passes is left
+  pub in_filter : (xs : List X) (x : X) → p x ≡ true → Contains xs x → Contains (filter p xs) x
+  in_filter [] x pass h = h
+  in_filter (y ∷ ys) x pass h =
+      elim (member_cases y ys x h) [
+        | inl e ↦ first_passes (p y) y x (filter p ys) (ap p e ∙ pass) e
+        | inr more ↦ behind_first (p y) y x (filter p ys) (in_filter ys x pass more)
+      ]
+
+  -- what is left passes
+  pub from_filter : (xs : List X) (x : X) → Contains (filter p xs) x → p x ≡ true
+  from_filter [] x h = absurd (none_member x h)
+  from_filter (y ∷ ys) x h =
+      elim (first_or_behind (p y) y x (filter p ys) h) [
+        | inl first ↦ ap p (sym first.1) ∙ first.0
+        | inr more ↦ from_filter ys x more
+      ]
+
+  -- what passes of one element more
+  module _ (xs : List X) (k : ℕ) (d : X) (ys : List X) (lt : k < length xs) (is : ys ≡ filter p (take k xs)) where
+    more : (b : Bool) → p (get_or xs k d) ≡ b
+        → ys ++ cond b (get_or xs k d ∷ []) [] ≡ filter p (take (k + 1) xs)
+    more b pass =
+        let x = get_or xs k d in
+        ap (λ (zs : List X). zs ++ cond b (x ∷ []) []) is
+        ∙ ap (λ (t : Bool). filter p (take k xs) ++ cond t (x ∷ []) []) (sym pass) ∙ sym (filter_more p xs k d lt)
+
+    pub filter_kept : (zs : List X) → p (get_or xs k d) ≡ true → zs ≡ ys ++ get_or xs k d ∷ []
+        → zs ≡ filter p (take (k + 1) xs)
+    filter_kept zs pass put = put ∙ more true pass
+
+    pub filter_left : p (get_or xs k d) ≡ false → ys ≡ filter p (take (k + 1) xs)
+    filter_left pass = sym (append-nil ys) ∙ more false pass

@@ -1,6 +1,7 @@
 -- Which faults an instruction can raise by itself (JVM Specification SE 8, 6.5, its run-time exceptions). Instructions on
 -- floats and doubles, monitors, multianewarray and invokedynamic are not judged, and have none here.
-use Rattle.std.specs.Prelude.{ℕ, Bool, true, false, nat_lt, bit_and}
+use Rattle.std.specs.Prelude.{ℕ, Bool, true, false, nat_lt, bit_and, List, [], ◌∷◌}
+use Rattle.std.specs.List.{filter}
 use Rattle.jv_base.specs.declared.method.Kind.{Kind}
 use Rattle.jv_base.specs.declared.method.Kind.TheVariants.{Null, Zero, Bounds, NegSize, Store as Stored, Cast, StrIndex, Assert}
 use Rattle.cf_code.specs.declared.kind_set.KindSet.{KindSet}
@@ -35,6 +36,14 @@ mask Assert = 128
 -- whether a set has a kind
 abbrev pub has : KindSet → Kind → Bool
 has set kind = nat_lt 0 (bit_and set.bits (mask kind))
+
+-- all kinds, in the order of the report
+abbrev pub all_kinds : List Kind
+all_kinds = Null ∷ Zero ∷ Bounds ∷ NegSize ∷ Stored ∷ Cast ∷ StrIndex ∷ Assert ∷ []
+
+-- the kinds of a set, in that order
+abbrev pub kinds_of : KindSet → List Kind
+kinds_of set = filter (has set) all_kinds
 
 -- whether elements are judged: floats and doubles are not
 abbrev pub is_judged : Element → Bool

@@ -1,7 +1,7 @@
 // Which faults an instruction can raise.
-ghost use Rattle.std.specs.Prelude.{◌≡◌};
+ghost use Rattle.std.specs.Prelude.{◌≡◌, ◌↔◌, true, IfOk, Contains};
 ghost use Rattle.jv_base.specs.declared.method.Kind.{Kind};
-ghost use Rattle.cf_code.specs.Kinds.{mask, has, number_raises, array_raises, field_raises, call_raises, object_raises, raises};
+ghost use Rattle.cf_code.specs.Kinds.{mask, has, kinds_of, number_raises, array_raises, field_raises, call_raises, object_raises, raises};
 
 use crate::array::{Array, Element};
 use crate::call::Call;
@@ -9,7 +9,8 @@ use crate::field::FieldUse;
 use crate::instr::Instr;
 use crate::number::{ArithOp, Num, Number};
 use crate::object::Object;
-use jv_base::Kind;
+use jv_base::{Kind, List, Mem};
+use std::alloc::Global;
 
 const NULL: u8 = 1;
 
@@ -27,6 +28,18 @@ const STR_INDEX: u8 = 64;
 
 const ASSERT: u8 = 128;
 
+/// All kinds, in the order of the report.
+const KINDS: [Kind; 8] = [
+    Kind::Null,
+    Kind::Zero,
+    Kind::Bounds,
+    Kind::NegSize,
+    Kind::Store,
+    Kind::Cast,
+    Kind::StrIndex,
+    Kind::Assert,
+];
+
 /// A set of kinds of faults, a bit for each.
 #[derive(Clone, Copy, Debug, PartialEq, Eq)]
 pub struct KindSet {
@@ -38,6 +51,20 @@ impl KindSet {
         ensures { result ≡ has self kind }
     {
         self.bits & bit_of(kind) > 0
+    }
+
+    /// The kinds of the set, each once, in the order of the report.
+    pub fn to_list(self, alloc: Global) -> Mem<List<Kind>>
+        ensures value { IfOk result (λ kinds. kinds ≡ kinds_of self) }
+        ensures members { IfOk result (λ kinds. (kind : Kind) → Contains kinds kind ↔ (has self kind ≡ true)) }
+    {
+        let mut kinds = Vec::new(alloc);
+        for kind in &KINDS {
+            if self.contains(*kind) {
+                kinds.push(*kind)?;
+            }
+        }
+        Ok(List::from_vec(kinds))
     }
 }
 

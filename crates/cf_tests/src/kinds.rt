@@ -34,7 +34,7 @@ const RAISED: &str = "
     c10001 |
 ";
 
-/// The kinds of a set, each before a blank.
+/// The kinds of a set, each before a blank, as it is asked and as it is listed.
 fn printed<R: Abort + AllocGlobal>(rt: &R, set: KindSet) -> String {
     let alloc = rt.alloc();
     let mut text = String::new(alloc);
@@ -44,6 +44,13 @@ fn printed<R: Abort + AllocGlobal>(rt: &R, set: KindSet) -> String {
                 .expect(rt, "memory");
         }
     }
+    let mut listed = String::new(alloc);
+    for kind in set.to_list(alloc).expect(rt, "memory").as_slice() {
+        listed
+            .push_str(format!(in alloc; "{kind:?} ").expect(rt, "memory").as_str())
+            .expect(rt, "memory");
+    }
+    assert!(rt; listed.as_str() == text.as_str());
     text
 }
 
