@@ -29,4 +29,7 @@ pub mod PairLemmas
 pub mod WayLemmas
 pub mod HandlerLemmas
 pub mod KindLemmas
+pub mod SameLemmas
+pub mod SameFamilyLemmas
+pub mod SameInstrLemmas
 pub mod StandardFacts

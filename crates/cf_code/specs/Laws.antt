@@ -1,5 +1,5 @@
 -- What holds of all bytes.
-use Rattle.std.specs.Prelude.{◌≡◌, ◌⊎◌, ◌<◌, ◌^◌, ℕ, List, ◌++◌, length}
+use Rattle.std.specs.Prelude.{◌≡◌, ◌↔◌, Bool, true, ◌⊎◌, ◌<◌, ◌^◌, ℕ, List, ◌++◌, length}
 use Rattle.cf_code.specs.declared.code.Placed.{Placed}
 use Rattle.cf_code.specs.declared.decoding.End.{End}
 use Rattle.cf_code.specs.declared.instr.Instr.{Instr}
@@ -34,3 +34,7 @@ abbrev pub IsOneBeginning : Type 0
 IsOneBeginning = (bytes : List ℕ) → length bytes < 2 ^ 16 → (code : List Placed) (end : End) → BeginsWith bytes code → EndsAs bytes code end
     → (other : List Placed) → BeginsWith bytes other
     → (more : List Placed) × (code ≡ other ++ more)
+
+-- a test of two values tells whether they are the same
+abbrev pub TellsSame : {K : Type 0} → (K → K → Bool) → Type 0
+TellsSame {K} test = (x y : K) → (test x y ≡ true) ↔ (x ≡ y)

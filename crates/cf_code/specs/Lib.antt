@@ -16,6 +16,7 @@ pub mod Code
 pub mod Sizes
 pub mod Targets
 pub mod Decoding
+pub mod Equality
 pub mod Transfers
 pub mod Laws
 pub mod Steps

@@ -8,7 +8,7 @@ use jv_base::{List, Mem};
 use std::alloc::Global;
 
 /// An instruction, and the pc of its opcode.
-#[derive(Debug, Drop)]
+#[derive(Debug, PartialEq, Eq, Drop)]
 pub struct Placed {
     pub pc: u16,
     pub instr: Instr,

@@ -19,7 +19,7 @@ use std::alloc::Global;
 
 /// An instruction, by its family (JVM Specification SE 8, 6.5). It keeps the form that it has in the code, so that its
 /// bytes are known; a target is a pc.
-#[derive(Debug, Drop)]
+#[derive(Debug, PartialEq, Eq, Drop)]
 pub enum Instr {
     Nop,
     Constant(Constant),

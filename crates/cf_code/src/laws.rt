@@ -1,5 +1,9 @@
 // Laws of the code of a method.
-ghost use Rattle.cf_code.specs.Laws.{HasItsSize, IsOneCode, IsNoCode, IsOneFault, IsCodeDecided, IsOneBeginning};
+ghost use Rattle.cf_code.specs.Laws.{HasItsSize, IsOneCode, IsNoCode, IsOneFault, IsCodeDecided, IsOneBeginning, TellsSame};
+
+use crate::code::Placed;
+use crate::instr::Instr;
+use crate::transfer::Row;
 
 /// What is an instruction has the size that its opcode and its operands tell.
 pub fn one_size()
@@ -31,4 +35,11 @@ pub fn code_decided()
 /// What bytes begin with is the front of what `walk` gives.
 pub fn one_beginning()
     ensures { IsOneBeginning }
+{}
+
+/// What `==` finds equal is the same, and nothing else.
+pub fn equality()
+    ensures instr { TellsSame ⟦<Instr as PartialEq>⟧.eq }
+    ensures placed { TellsSame ⟦<Placed as PartialEq>⟧.eq }
+    ensures row { TellsSame ⟦<Row as PartialEq>⟧.eq }
 {}

@@ -1,6 +1,9 @@
 // The two switches.
 ghost use Rattle.std.specs.Prelude.{◌≡◌, ◌++◌, ◌∷◌, ◌<◌, ◌≤◌, ◌^◌, ◌≤ℤ◌, ◌<ℤ◌, ◌+ℤ◌, ◌-ℤ◌, ◌↔◌, IsTrue, ℕ, ℤ, pos, List as list_of, length, Some, IfOk, IfSome, MatchOption, OnOk};
 ghost use Rattle.std.specs.List.{flat_map, All};
+ghost use Rattle.std.specs.Cmp.Rules.{comparing};
+ghost use Rattle.std.proofs.Common.{rules};
+ghost use Rattle.cf_code.specs.Equality.{table_eq, lookup_eq};
 ghost use Rattle.std.specs.Int.{w32};
 ghost use Rattle.std.specs.Int.RustNames.{FitsSigned};
 ghost use Rattle.cf_code.specs.Bytes.{four, signed_four, IsTwo};
@@ -27,6 +30,39 @@ pub struct LookupSwitch {
     pub padding: List<u8>,
     pub default: u16,
     pub cases: List<Case>,
+}
+
+impl PartialEq for TableSwitch {
+    ghost eq = { table_eq };
+
+    ghost laws = { Prim.search (comparing, rules) };
+
+    fn eq(&self, other: &TableSwitch) -> bool {
+        self.padding.as_slice() == other.padding.as_slice()
+            && self.default == other.default
+            && self.low == other.low
+            && self.targets.as_slice() == other.targets.as_slice()
+    }
+}
+
+impl Eq for TableSwitch {
+    ghost laws = { Prim.search (comparing, rules) };
+}
+
+impl PartialEq for LookupSwitch {
+    ghost eq = { lookup_eq };
+
+    ghost laws = { Prim.search (comparing, rules) depth 9 };
+
+    fn eq(&self, other: &LookupSwitch) -> bool {
+        self.padding.as_slice() == other.padding.as_slice()
+            && self.default == other.default
+            && self.cases.as_slice() == other.cases.as_slice()
+    }
+}
+
+impl Eq for LookupSwitch {
+    ghost laws = { Prim.search (comparing, rules) depth 9 };
 }
 
 /// A key of a switch, and the pc that it leads to.
