@@ -1,0 +1,10 @@
+pub mod ListLemmas
+pub mod NestLemmas
+pub mod OrderLemmas
+pub mod RiseLemmas
+pub mod SortLemmas
+pub mod IntervalLemmas
+pub mod ReachLemmas
+pub mod LoopLemmas
+pub mod StepLemmas
+pub mod CompareLemmas
