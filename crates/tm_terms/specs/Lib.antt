@@ -1,0 +1,6 @@
+pub mod Equations
+pub mod Operations
+pub mod Quotients
+pub mod Sharing
+pub mod Terms
+pub mod Words

@@ -1,0 +1,10 @@
+//! Terms over words of 1, 16, 32 and 64 bits: what they mean, and a bank that shares them and folds constants.
+#![tactic(auto)]
+
+mod bank;
+mod op;
+mod sort;
+
+pub use bank::Bank;
+pub use op::{Op, Operands, TermId};
+pub use sort::Sort;
