@@ -1,1 +1,3 @@
+pub mod BankLemmas
 pub mod KeyLemmas
+pub mod TermLemmas

@@ -4,3 +4,4 @@ pub mod Quotients
 pub mod Sharing
 pub mod Terms
 pub mod Words
+pub mod BankView

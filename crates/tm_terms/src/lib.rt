@@ -2,8 +2,11 @@
 #![tactic(auto)]
 
 mod bank;
+mod numbers;
 mod op;
+mod places;
 mod sort;
+mod words;
 
 pub use bank::Bank;
 pub use op::{Op, Operands, TermId};

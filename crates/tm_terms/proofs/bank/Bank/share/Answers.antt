@@ -1,0 +1,48 @@
+-- The bank with an operation that had no place.
+use Rattle.std.proofs.Common.{◌≡◌, ap, sym, refl, ◌++◌, [], ◌∷◌, List, ◌∙◌, Some, None, length, take, subst, rules}
+use Rattle.std.specs.Prelude.{slice_get}
+use Rattle.std.proofs.Math.Seq.{take-append_seam}
+use Rattle.jv_list.proofs.PlaceLemmas.{slice_get-push_last}
+use Rattle.tm_terms.specs.declared.sort.Sort.{Sort}
+use Rattle.tm_terms.specs.declared.op.Op.{Op}
+use Rattle.tm_terms.specs.Operations.{operands_of}
+use Rattle.tm_terms.specs.Terms.{Fits, op_sort}
+use Rattle.tm_terms.specs.Sharing.{on_constants}
+use Rattle.tm_terms.specs.BankView.{IsBank, PutsAt, place_in}
+use Rattle.tm_terms.proofs.BankLemmas.{bank-push, places-push, bank-same}
+use Rattle.tm_terms.proofs.bank.Bank.share.Goals as goal
+
+pub returns-in-Some-clause-stands : goal.returns-in-Some-clause-stands
+returns-in-Some-clause-stands c =
+    rw (← c.self.view_is) (c.self.invariant.placed.found c.args.op c.in-Some.place (sym c.in-Some.ensures))
+
+pub invariant_of-self-in-Ok : goal.invariant_of-self-in-Ok
+invariant_of-self-in-Ok c =
+    let ops = c.self.inside.ops in
+    let places = c.self.inside.places in
+    let fits : Fits ops c.args.op = subst (λ (xs : List Op). Fits xs c.args.op) (sym c.self.view_is) c.requires.fits in
+    let folded = rw (← c.self.view_is) at c.requires.folded in
+    let sort = rw (← c.self.view_is) at c.requires.sort in
+    let put = rw c.length-count.ensures at c.in-Ok.ensures.ok in
+    let none : c.place_of.result ≡ None = search rules in
+    let absent : place_in places c.args.op ≡ None = sym c.place_of.ensures ∙ none in
+    let placed = places-push ops c.args.op places c.put_at.new.places put absent c.self.invariant.placed in
+    rw (c.in_ok-push_both.ensures.ops, c.in_ok-push_both.ensures.sorts, sort)
+    (bank-push ops c.args.op c.self.inside.sorts places c.put_at.new.places c.self.invariant fits folded c.requires.reduced placed)
+
+pub invariant_of-self-in-Err : goal.invariant_of-self-in-Err
+invariant_of-self-in-Err c =
+    let kept = take-append_seam c.self.inside.ops (c.args.op ∷ []) in
+    let sorts_kept = take-append_seam c.self.inside.sorts (c.args.sort ∷ []) in
+    let same = bank-same c.self.inside.ops c.self.inside.sorts c.self.inside.places c.put_at.new.places
+        c.in-Err.ensures.unchanged c.self.invariant in
+    let front : c.truncate.new.self ≡ c.self.inside.ops =
+        c.truncate.ensures ∙ rw (c.length-count.ensures, c.in_ok-push_both.ensures.ops) kept in
+    let sorts : c.truncate-in-Err.new.self ≡ c.self.inside.sorts =
+        c.truncate-in-Err.ensures
+        ∙ rw (c.length-count.ensures, ← c.self.invariant.sorted.even, c.in_ok-push_both.ensures.sorts) sorts_kept in
+    rw (front, sorts) same
+
+pub returns-in-Ok-clause-stands : goal.returns-in-Ok-clause-stands
+returns-in-Ok-clause-stands c =
+    rw (c.in_ok-push_both.ensures.ops, c.length-count.ensures) (slice_get-push_last c.self.inside.ops c.args.op _ refl)
