@@ -1,21 +1,20 @@
 -- What holds of every bank holds of it with one more term.
-use Rattle.std.proofs.Common.{◌≡◌, ℕ, ◌+◌, ◌<◌, ◌≤◌, List, [], ◌∷◌, ◌++◌, length, take, inl, inr, ◌⊎◌, Bool, true, false, cond, ◌&&◌}
-use Rattle.std.proofs.Common.{Some, None, Option, refl, sym, ap, ◌∙◌, arith, subst, true≢false}
+use Rattle.std.proofs.Common.{◌≡◌, ℕ, ◌<◌, ◌≤◌, List, [], ◌∷◌, ◌++◌, length, take, inl, inr, ◌⊎◌, Bool, true, false, cond, ◌&&◌}
+use Rattle.std.proofs.Common.{Some, None, refl, sym, ap, ◌∙◌, arith, subst, true≢false}
 use Rattle.std.specs.Prelude.{slice_get}
 use Rattle.std.specs.HashMap.{HashMap}
 use Rattle.std.proofs.lemmas.List.{length-append, length-take, take-append-le}
 use Rattle.std.proofs.lemmas.Option.{slice_get_within, same_Some, none-some}
 use Rattle.std.proofs.Math.Seq.{take-append_seam}
 use Rattle.jv_list.proofs.PlaceLemmas.{slice_get-push_last, slice_get-push_other, slice_get-push_cases}
-use Rattle.jv_list.proofs.ElementLemmas.{some_at, one_at}
+use Rattle.jv_list.proofs.ElementLemmas.{some_at}
 use Rattle.tm_terms.specs.declared.sort.Sort.{Sort}
 use Rattle.tm_terms.specs.declared.op.Operands.{Operands}
 use Rattle.tm_terms.specs.declared.op.Operands.TheVariants.{Nothing, One, Two, Three}
 use Rattle.tm_terms.specs.declared.op.Op.{Op}
-use Rattle.tm_terms.specs.declared.op.Op.TheVariants.{Free}
 use Rattle.tm_terms.specs.Operations.{operands_of, AreBelow}
 use Rattle.tm_terms.specs.Terms.{is_free, term_sort, op_sort, Fits, AreTerms}
-use Rattle.tm_terms.specs.Sharing.{is_const, on_constants, AreFolded, IsReduced, AreReduced}
+use Rattle.tm_terms.specs.Sharing.{is_const, on_constants, AreShared, AreFolded, IsReduced, AreReduced}
 use Rattle.tm_terms.specs.BankView.{place_in, AreSorts, ArePlaces, IsBank, PutsAt, HasSame}
 use Rattle.tm_terms.specs.contracts.op.OpPartialEq.TheImpl as op_eq
 use Rattle.tm_terms.proofs.KeyLemmas.{same_op}
@@ -44,34 +43,34 @@ below-more m n (Two a b) h c = (omega arith, omega arith)
 below-more m n (Three a b c) h d = (omega arith, omega arith, omega arith)
 
 module _ (ops : List Op) (op : Op) where
-  terms-push : AreTerms ops → Fits ops op → AreTerms (ops ++ op ∷ [])
+  pub terms-push : AreTerms ops → Fits ops op → AreTerms (ops ++ op ∷ [])
   terms-push old fits k other e =
-      elim (slice_get-push_cases ops op other k e)
-      [ inl stood ↦
-          let within : k < length ops = slice_get_within ops k other stood in
-          let le : k ≤ length ops = omega arith in
-          let same : take k ops ≡ take k (ops ++ op ∷ []) = sym (take-append-le k ops (op ∷ []) le) in
-          subst (λ (front : List Op). Fits front other) same (old k other stood)
-      | inr last ↦
-          let front : ops ≡ take k (ops ++ op ∷ []) =
-              sym (ap (λ (n : ℕ). take n (ops ++ op ∷ [])) last.0 ∙ take-append_seam ops (op ∷ [])) in
-          subst (λ (x : Op). Fits (take k (ops ++ op ∷ [])) x) last.1
-          (subst (λ (xs : List Op). Fits xs op) front fits)
+      elim (slice_get-push_cases ops op other k e) [
+        | inl stood ↦
+            let within : k < length ops = slice_get_within ops k other stood in
+            let le : k ≤ length ops = omega arith in
+            let same : take k ops ≡ take k (ops ++ op ∷ []) = sym (take-append-le k ops (op ∷ []) le) in
+            subst (λ (front : List Op). Fits front other) same (old k other stood)
+        | inr last ↦
+            let front : ops ≡ take k (ops ++ op ∷ []) =
+            sym (ap (λ (n : ℕ). take n (ops ++ op ∷ [])) last.0 ∙ take-append_seam ops (op ∷ [])) in
+            subst (λ (x : Op). Fits (take k (ops ++ op ∷ [])) x) last.1
+            (subst (λ (xs : List Op). Fits xs op) front fits)
       ]
 
   folded-push : AreTerms ops → AreFolded ops → Fits ops op → on_constants ops (operands_of op) ≡ false
       → AreFolded (ops ++ op ∷ [])
   folded-push terms old fits folded k other e =
-      elim (slice_get-push_cases ops op other k e)
-      [ inl stood ↦
-          let within : k < length ops = slice_get_within ops k other stood in
-          let short : length (take k ops) ≤ length ops = omega (arith, length-take k ops) in
-          let below : AreBelow (length ops) (operands_of other) =
-              below-more _ (length ops) (operands_of other) short (terms k other stood).below in
-          constants-push ops op (operands_of other) below ∙ old k other stood
-      | inr last ↦
-          subst (λ (x : Op). on_constants (ops ++ op ∷ []) (operands_of x) ≡ false) last.1
-          (constants-push ops op (operands_of op) fits.below ∙ folded)
+      elim (slice_get-push_cases ops op other k e) [
+        | inl stood ↦
+            let within : k < length ops = slice_get_within ops k other stood in
+            let short : length (take k ops) ≤ length ops = omega (arith, length-take k ops) in
+            let below : AreBelow (length ops) (operands_of other) =
+            below-more _ (length ops) (operands_of other) short (terms k other stood).below in
+            constants-push ops op (operands_of other) below ∙ old k other stood
+        | inr last ↦
+            subst (λ (x : Op). on_constants (ops ++ op ∷ []) (operands_of x) ≡ false) last.1
+            (constants-push ops op (operands_of op) fits.below ∙ folded)
       ]
 
   reduced-push : AreReduced ops → IsReduced op → AreReduced (ops ++ op ∷ [])
@@ -95,16 +94,19 @@ module _ (ops : List Op) (op : Op) where
   sorts-push sorts old = record {
     even = omega (arith, old.even, length-append ops (op ∷ []), length-append sorts (op_sort ops op ∷ []));
     each = λ k h. let s = some_at (ops ++ op ∷ []) k h in
-        sort-at sorts old k s.0 (slice_get-push_cases ops op s.0 k s.1) }
+        sort-at sorts old k s.0 (slice_get-push_cases ops op s.0 k s.1);
+  }
 
   -- a free term is in no map
   pub places-push_free : {S : Type 0} (places : HashMap Op ℕ S) → is_free op ≡ true → ArePlaces ops places
       → ArePlaces (ops ++ op ∷ []) places
   places-push_free places free old = record {
     found = λ x k e. slice_get-push_other ops op x k (old.found x k e);
-    all = λ k x kept e. elim (slice_get-push_cases ops op x k e)
-      [ inl stood ↦ old.all k x kept stood
-      | inr last ↦ absurd (true≢false (sym free ∙ ap is_free last.1 ∙ kept)) ] }
+    all = λ k x kept e. elim (slice_get-push_cases ops op x k e) [
+      | inl stood ↦ old.all k x kept stood
+      | inr last ↦ absurd (true≢false (sym free ∙ ap is_free last.1 ∙ kept))
+    ];
+  }
 
   module _ {S : Type 0} (places new : HashMap Op ℕ S) where
     found-by : ArePlaces ops places → (x : Op) (k : ℕ) (b : Bool) → (op_eq.ghosts).eq op x ≡ b
@@ -124,9 +126,11 @@ module _ (ops : List Op) (op : Op) where
         → ArePlaces (ops ++ op ∷ []) new
     places-push put absent old = record {
       found = λ x k e. found-by old x k ((op_eq.ghosts).eq op x) refl (sym (put.each x) ∙ e);
-      all = λ k x kept e. elim (slice_get-push_cases ops op x k e)
-        [ inl stood ↦ put.each x ∙ all-old absent x k (old.all k x kept stood) ((op_eq.ghosts).eq op x) refl
-        | inr last ↦ subst (λ (y : Op). place_in new y ≡ Some k) last.1 (put.here ∙ ap Some (sym last.0)) ] }
+      all = λ k x kept e. elim (slice_get-push_cases ops op x k e) [
+        | inl stood ↦ put.each x ∙ all-old absent x k (old.all k x kept stood) ((op_eq.ghosts).eq op x) refl
+        | inr last ↦ subst (λ (y : Op). place_in new y ≡ Some k) last.1 (put.here ∙ ap Some (sym last.0))
+      ];
+    }
 
   -- a bank with one more term
   pub bank-push : {S : Type 0} (sorts : List Sort) (places new : HashMap Op ℕ S) → IsBank ops sorts places
@@ -137,7 +141,8 @@ module _ (ops : List Op) (op : Op) where
     folded = folded-push old.terms old.folded fits folded;
     reduced = reduced-push old.reduced reduced;
     sorted = sorts-push sorts old.sorted;
-    placed = placed }
+    placed = placed;
+  }
 
 -- and so is one whose map was left
 pub bank-same : {S : Type 0} (ops : List Op) (sorts : List Sort) (places new : HashMap Op ℕ S) → HasSame places new
@@ -149,4 +154,10 @@ bank-same ops sorts places new same old = record {
   sorted = old.sorted;
   placed = record {
     found = λ x k e. old.placed.found x k (sym (same.each x) ∙ e);
-    all = λ k x kept e. same.each x ∙ old.placed.all k x kept e } }
+    all = λ k x kept e. same.each x ∙ old.placed.all k x kept e;
+  };
+}
+
+-- an operation that has one place in the map stands once
+pub shared-by : {S : Type 0} (ops : List Op) (places : HashMap Op ℕ S) → ArePlaces ops places → AreShared ops
+shared-by ops places placed j k op kept e f = same_Some j k (sym (placed.all j op kept e) ∙ placed.all k op kept f)

@@ -1,5 +1,5 @@
 -- Operations that the map's keys call equal are equal.
-use Rattle.std.proofs.Common.{◌≡◌, ℕ, true, Bool, refl, nat_eq, ◌&&◌, ap, ◌∙◌}
+use Rattle.std.proofs.Common.{◌≡◌, ℕ, true, refl, nat_eq, ◌&&◌, ap, ◌∙◌}
 use Rattle.std.proofs.lemmas.Bool.{eqb-true, and_parts}
 use Rattle.tm_terms.specs.declared.sort.Sort.{Sort}
 use Rattle.tm_terms.specs.declared.sort.Sort.TheVariants.{Bool as Truth, W16, W32, W64}

@@ -1,3 +1,6 @@
 pub mod BankLemmas
+pub mod FoldLemmas
 pub mod KeyLemmas
+pub mod MakeLemmas
 pub mod TermLemmas
+pub mod ValueLemmas

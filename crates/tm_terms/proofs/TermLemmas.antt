@@ -1,8 +1,8 @@
 -- A bank with one more term: the earlier terms keep their sorts and values, and the last has those of its operation.
-use Rattle.std.proofs.Common.{◌≡◌, ◌≢◌, ℕ, zero, suc, ◌+◌, ◌*◌, ◌%◌, ◌<◌, ◌≤◌, ◌==◌, List, [], ◌∷◌, ◌++◌, length, take, reverse}
-use Rattle.std.proofs.Common.{Bool, true, false, Some, None, refl, sym, ap, ◌∙◌, arith, subst, append_assoc, cond, ◌^◌, lit<, mod-lt}
+use Rattle.std.proofs.Common.{◌≡◌, ℕ, ◌+◌, ◌<◌, ◌==◌, List, [], ◌∷◌, ◌++◌, length, take, reverse}
+use Rattle.std.proofs.Common.{true, false, refl, sym, ap, ◌∙◌, arith, append_assoc, cond, ◌^◌, lit<, mod-lt}
 use Rattle.std.proofs.lemmas.Nat.{pow_pos}
-use Rattle.std.specs.Prelude.{slice_get, slice_index}
+use Rattle.std.specs.Prelude.{slice_index}
 use Rattle.std.proofs.lemmas.List.{reverse-append, length-reverse, append-nil, take-append-drop, length-append}
 use Rattle.std.proofs.lemmas.Grind.{common_steps}
 use Rattle.tm_terms.specs.declared.sort.Sort.{Sort}
@@ -89,8 +89,8 @@ unfolding value_among sort_among
 value_among-below v [] k = lit< tt
 value_among-below v (op ∷ earlier) k =
     elim (k == length earlier) as (λ b. cond b (number_by (sort_among earlier) (value_among v earlier)
-            (slice_index v (free_count earlier)) op) (value_among v earlier k)
-        < 2 ^ width_of (cond b (sort_by (sort_among earlier) op) (sort_among earlier k)))
+    (slice_index v (free_count earlier)) op) (value_among v earlier k)
+    < 2 ^ width_of (cond b (sort_by (sort_among earlier) op) (sort_among earlier k)))
     [ true ↦ mod-lt _ (pow_pos _) | false ↦ value_among-below v earlier k ]
 
 pub value-below : (ops : List Op) (v : List ℕ) (k : ℕ) → term_value ops v k < 2 ^ width_of (term_sort ops k)

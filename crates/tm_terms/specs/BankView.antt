@@ -1,7 +1,6 @@
 -- How a bank keeps its terms: their operations, their sorts, and where each operation stands.
 use Rattle.std.specs.Prelude.{◌≡◌, ◌<◌, ℕ, List, length, slice_get, Some, Option, false, cond}
 use Rattle.std.specs.HashMap.{HashMap, get}
-use Rattle.tm_terms.specs.Operations.{operands_of}
 use Rattle.tm_terms.specs.Terms.{is_free, term_sort, AreTerms}
 use Rattle.tm_terms.specs.Sharing.{AreFolded, AreReduced}
 use Rattle.tm_terms.specs.declared.sort.Sort.{Sort}

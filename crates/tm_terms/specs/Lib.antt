@@ -1,6 +1,8 @@
 pub mod Equations
+pub mod Listed
 pub mod Operations
 pub mod Quotients
+pub mod Rules
 pub mod Sharing
 pub mod Terms
 pub mod Words

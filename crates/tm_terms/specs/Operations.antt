@@ -3,7 +3,6 @@ use Rattle.std.specs.Prelude.{◌≡◌, ◌≤◌, ◌<◌, ℕ}
 use Rattle.tm_terms.specs.Words.{width_of}
 use Rattle.tm_terms.specs.declared.sort.Sort.{Sort}
 use Rattle.tm_terms.specs.declared.sort.Sort.TheVariants.{Bool as Truth}
-use Rattle.tm_terms.specs.declared.op.TermId.{TermId}
 use Rattle.tm_terms.specs.declared.op.Operands.{Operands}
 use Rattle.tm_terms.specs.declared.op.Operands.TheVariants.{Nothing, One, Two, Three}
 use Rattle.tm_terms.specs.declared.op.Op.{Op}

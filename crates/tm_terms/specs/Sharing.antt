@@ -1,5 +1,5 @@
 -- No term twice, and no operation on constants alone.
-use Rattle.std.specs.Prelude.{◌≡◌, ◌<◌, ◌^◌, ℕ, Bool, true, false, ◌&&◌, List, slice_get, Option, None, Some}
+use Rattle.std.specs.Prelude.{◌≡◌, ◌<◌, ◌^◌, ℕ, Bool, true, false, ◌&&◌, List, slice_get, Option, Some}
 use Rattle.tm_terms.specs.Words.{width_of}
 use Rattle.tm_terms.specs.Operations.{operands_of}
 use Rattle.tm_terms.specs.Terms.{is_free}

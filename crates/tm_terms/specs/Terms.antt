@@ -1,5 +1,5 @@
 -- The sort and the value of each term of a bank. A bank is the list of its operations; a term is a place in it.
-use Rattle.std.specs.Prelude.{◌≡◌, ◌+◌, ◌<◌, ◌==◌, ℕ, List, [], ◌∷◌, ◌++◌, length, take, reverse, slice_get, slice_index, Some}
+use Rattle.std.specs.Prelude.{◌≡◌, ◌+◌, ◌==◌, ℕ, List, [], ◌∷◌, ◌++◌, length, take, reverse, slice_get, slice_index, Some}
 use Rattle.std.specs.Prelude.{Bool, true, false, if◌then◌else◌}
 use Rattle.tm_terms.specs.Words.{bit_number}
 use Rattle.tm_terms.specs.Operations.{operands_of, first_of, second_of, third_of, AreBelow, SortsFit}
@@ -31,7 +31,7 @@ unfoldable pub value_among : List ℕ → List Op → ℕ → ℕ
 value_among v [] k = 0
 value_among v (op ∷ earlier) k =
     if k == length earlier then
-        number_by (sort_among earlier) (value_among v earlier) (slice_index v (free_count earlier)) op
+    number_by (sort_among earlier) (value_among v earlier) (slice_index v (free_count earlier)) op
     else value_among v earlier k
 
 -- the sort of the term at a place of a bank

@@ -2,9 +2,11 @@
 ghost use Rattle.std.specs.Prelude.{◌≡◌, ◌<◌, ◌+◌, [], ◌∷◌, ◌++◌, ℕ, true, false, length, slice_get, Some, None, IfOk, OnOk, IfSome, IfNone, OnErr, ◌⊎◌};
 ghost use Rattle.tm_terms.specs.declared.op.Op.TheVariants.{Free};
 
+use crate::fold::{folded, sort_of};
 use crate::op::{Op, TermId};
 use crate::places::{place_of, put_at};
 use crate::sort::Sort;
+use crate::values::{Valuation, first_values};
 use jv_base::{List, Mem};
 use std::alloc::{AllocError, Global};
 use std::collections::HashMap;
@@ -50,8 +52,9 @@ impl Bank {
     ghost use Rattle.std.specs.Prelude.{List as list_of};
     ghost use Rattle.tm_terms.specs.declared.op.Op.{Op};
     ghost use Rattle.tm_terms.specs.Operations.{operands_of};
-    ghost use Rattle.tm_terms.specs.Terms.{term_sort, term_value, op_sort, op_value, Fits, Continues, is_free, free_count};
-    ghost use Rattle.tm_terms.specs.Sharing.{on_constants, IsReduced};
+    ghost use Rattle.tm_terms.specs.Terms.{term_sort, term_value, op_sort, op_value, Fits, Continues, is_free, free_count, AreTerms};
+    ghost use Rattle.tm_terms.specs.Sharing.{on_constants, IsReduced, AreShared, AreFolded, AreReduced};
+    ghost use Rattle.tm_terms.specs.Rules.{IsMade, Replaces};
 
     /// A bank without terms. It takes no memory.
     pub fn new(alloc: Global) -> Bank
@@ -80,11 +83,33 @@ impl Bank {
         *self.sorts.at(id.0 as usize)
     }
 
+    /// What holds of every bank.
+    pub fn laws(&self)
+        ensures terms { AreTerms self.now }
+        ensures shared { AreShared self.now }
+        ensures folded { AreFolded self.now }
+        ensures reduced { AreReduced self.now }
+    {
+        let _ = &self.ops;
+    }
+
+    /// The value of a term under a valuation. It takes time and memory for each term up to its place.
+    pub fn value(&self, alloc: Global, v: &Valuation, id: TermId) -> Mem<u64>
+        requires { id.0 < length self.now }
+        ensures { IfOk result (λ number. number ≡ term_value self.now v.now.numbers id.0) }
+    {
+        let last = id.0 as usize;
+        let ops = self.ops.as_slice();
+        let sorts = self.sorts.as_slice();
+        let values = first_values(alloc, ops, sorts, v.numbers.as_slice(), last + 1)?;
+        Ok(*values.at(last))
+    }
+
     // A new free term.
     fn add_free(&mut self, sort: Sort) -> Mem<TermId>
         ensures ok { OnOk result (self.new ≡ self.old ++ Free sort ∷ []) }
-        ensures place { IfOk result (λ id. id.0 ≡ length self.old) }
-        ensures unchanged { OnErr result (self.new ≡ self.old) }
+        ensures made { IfOk result (λ id. IsMade self.old self.new (Free sort) id) }
+        ensures keeps { Continues self.old self.new }
     {
         let place = self.ops.length() as u64;
         push_both(&mut self.ops, &mut self.sorts, Op::Free(sort), sort)?;
@@ -98,9 +123,8 @@ impl Bank {
         requires kept { is_free op ≡ false }
         requires folded { on_constants self.old (operands_of op) ≡ false }
         requires reduced { IsReduced op }
-        ensures stands { IfOk result (λ id. slice_get self.new id.0 ≡ Some op) }
-        ensures ok { OnOk result ((self.new ≡ self.old) ⊎ (self.new ≡ self.old ++ op ∷ [])) }
-        ensures unchanged { OnErr result (self.new ≡ self.old) }
+        ensures made { (of : Op) → Replaces self.old of op → is_free of ≡ false → IfOk result (λ id. IsMade self.old self.new of id) }
+        ensures keeps { Continues self.old self.new }
     {
         if let Some(place) = place_of(&self.places, op) {
             return Ok(TermId(place));
@@ -115,5 +139,25 @@ impl Bank {
                 Err(refused)
             }
         }
+    }
+    /// A term with the value of the operation: one that stands already, one that is simpler, or a new one. That of a free
+    /// term is always new, and one whose operation stands already is the one that stands. For want of memory the bank may have
+    /// further terms.
+    pub fn make(&mut self, op: Op) -> Mem<TermId>
+        requires { Fits self.old op }
+        ensures made { IfOk result (λ id. IsMade self.old self.new op id) }
+        ensures keeps { Continues self.old self.new }
+        ensures free { is_free op ≡ true → OnOk result (self.new ≡ self.old ++ op ∷ []) }
+        ensures again { (k : ℕ) → is_free op ≡ false → slice_get self.old k ≡ Some op → IfOk result (λ id. (id.0 ≡ k) × (self.new ≡ self.old)) }
+    {
+        if let Op::Free(sort) = op {
+            return self.add_free(sort);
+        }
+        if let Some(place) = place_of(&self.places, op) {
+            return Ok(TermId(place));
+        }
+        let op = folded(self, op);
+        let sort = sort_of(self, op);
+        self.share(op, sort)
     }
 }

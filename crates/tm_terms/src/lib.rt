@@ -2,12 +2,15 @@
 #![tactic(auto)]
 
 mod bank;
+mod fold;
 mod numbers;
 mod op;
 mod places;
 mod sort;
+mod values;
 mod words;
 
 pub use bank::Bank;
 pub use op::{Op, Operands, TermId};
 pub use sort::Sort;
+pub use values::Valuation;

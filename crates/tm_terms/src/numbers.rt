@@ -115,13 +115,7 @@ impl Op {
             Op::Not(_) => 1u64.saturating_sub(x),
             Op::And(_, _) => x.min(y),
             Op::Or(_, _) => x.max(y),
-            Op::If(_, _, _) => {
-                if x == 0 {
-                    z
-                } else {
-                    y
-                }
-            }
+            Op::If(_, _, _) => { if x == 0 { z } else { y } }
             Op::Equal(_, _) => u64::from(x == y),
             Op::Add(_, _) => return sum(s, x, y),
             Op::Sub(_, _) => return difference(s, x, y),

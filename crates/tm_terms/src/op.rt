@@ -87,9 +87,8 @@ impl Op {
         ensures { result ≡ sort_over s t self }
     {
         match self {
-            Op::Free(u) | Op::Const(u, _) | Op::Widen(u, _) | Op::WidenZero(u, _) | Op::Cut(u, _) => {
-                u
-            }
+            Op::Free(u) | Op::Const(u, _) | Op::Widen(u, _) | Op::WidenZero(u, _) | Op::Cut(u, _) =>
+                { u }
             Op::Not(_)
             | Op::And(_, _)
             | Op::Or(_, _)

@@ -1,0 +1,40 @@
+-- What may stand for an operation.
+use Rattle.std.specs.Prelude.{◌≡◌, ◌<◌, ◌+◌, ℕ, List, length, true, false}
+use Rattle.tm_terms.specs.declared.sort.Sort.TheVariants.{Bool as Truth}
+use Rattle.tm_terms.specs.declared.op.TermId.{TermId}
+use Rattle.tm_terms.specs.declared.op.Operands.{Operands}
+use Rattle.tm_terms.specs.declared.op.Op.{Op}
+use Rattle.tm_terms.specs.declared.numbers.Given.{Given}
+use Rattle.tm_terms.specs.Words.{bit_number}
+use Rattle.tm_terms.specs.Operations.{first_of, second_of, third_of}
+use Rattle.tm_terms.specs.Terms.{is_free, free_count, term_sort, term_value, op_sort, op_value, Fits}
+use Rattle.tm_terms.specs.Sharing.{on_constants}
+
+-- another operation with the same sort, and the same value under every valuation
+pub record Replaces (ops : List Op) (op other : Op) : Type 0 where
+  pub fits : Fits ops other
+  pub sort : op_sort ops other ≡ op_sort ops op
+  pub value : (v : List ℕ) → op_value ops v other ≡ op_value ops v op
+  pub kept : is_free other ≡ false
+
+-- a term with its sort, and its value under every valuation
+pub record IsSame (ops : List Op) (op : Op) (id : TermId) : Type 0 where
+  pub within : id.0 < length ops
+  pub sort : term_sort ops id.0 ≡ op_sort ops op
+  pub value : (v : List ℕ) → term_value ops v id.0 ≡ op_value ops v op
+
+-- the operands are constants with these sorts and numbers
+pub record AreGiven (ops : List Op) (o : Operands) (given : Given) : Type 0 where
+  pub s : given.s ≡ first_of Truth (term_sort ops) o
+  pub t : given.t ≡ second_of Truth (term_sort ops) o
+  pub x : (v : List ℕ) → first_of 0 (term_value ops v) o ≡ given.x
+  pub y : (v : List ℕ) → second_of 0 (term_value ops v) o ≡ given.y
+  pub z : (v : List ℕ) → third_of 0 (term_value ops v) o ≡ given.z
+  pub on : on_constants ops o ≡ true
+
+-- the term that was made of an operation over the old bank
+pub record IsMade (old new : List Op) (op : Op) (id : TermId) : Type 0 where
+  pub within : id.0 < length new
+  pub sort : term_sort new id.0 ≡ op_sort old op
+  pub value : (v : List ℕ) → term_value new v id.0 ≡ op_value old v op
+  pub inputs : free_count new ≡ free_count old + bit_number (is_free op)
