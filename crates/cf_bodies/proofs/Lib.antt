@@ -1,0 +1,15 @@
+pub mod SizeLemmas
+pub mod PlaceLemmas
+pub mod KindLemmas
+pub mod RowLemmas
+pub mod LaidLemmas
+pub mod CodeLemmas
+pub mod TellsLemmas
+pub mod CheckLemmas
+pub mod BodyLemmas
+pub mod FitLemmas
+pub mod RiseLemmas
+pub mod JudgedLemmas
+pub mod MetLemmas
+pub mod LawLemmas
+pub mod PassLemmas

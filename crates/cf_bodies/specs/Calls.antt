@@ -1,0 +1,4 @@
+-- What private functions ensure.
+pub mod Views
+pub mod Tells
+pub mod Unmet

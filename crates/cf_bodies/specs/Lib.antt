@@ -1,0 +1,9 @@
+pub mod Needs
+pub mod Rows
+pub mod Places
+pub mod Checks
+pub mod Bodies
+pub mod Judged
+pub mod Passes
+pub mod Laws
+pub mod Calls
