@@ -2,7 +2,7 @@
 ghost use Rattle.cf_code.specs.Instr.{Fits};
 
 use crate::tables::{bytes_of, number_of, rows, three_of, two_of};
-use cf_code::{Instr, instr_size, put_instr, read_instr};
+use cf_code::{Instr, Placed, equality, instr_size, put_instr, read_instr};
 use std::process::Abort;
 
 /// Whether an instruction is written as these bytes.
@@ -284,4 +284,70 @@ fn a_table_of_65535_targets_is_read_and_written(rt: HostRuntime) {
     let mut bytes = bytes_of(&rt, "aa000000 00000000 00000001 0000ffff");
     bytes.resize(16 + 4 * 65535, 0).expect(&rt, "memory");
     assert!(rt; kept(&rt, 0, &bytes).len() > 65535);
+}
+
+// The bytes of two instructions at pc 0, and whether they are the same.
+const COMPARED: &str = "
+    00 | 00 | true
+    00 | 01 | false
+    // two forms of one constant, and of one load
+    04 | 1001 | false
+    1b | 1501 | false
+    1501 | c4150001 | false
+    c484012cffff | c484012cffff | true
+    c484012cffff | c484012dffff | false
+    c484012cffff | c484012c0000 | false
+    60 | 60 | true
+    60 | 61 | false
+    a70003 | a70003 | true
+    a70003 | a70004 | false
+    b20001 | b20001 | true
+    b20001 | b20002 | false
+    b20001 | b40001 | false
+    b900010203 | b900010203 | true
+    b900010203 | b900010200 | false
+    // the padding, the default, the least key and a target of a table
+    aa000000 00000000 00000007 00000007 00000000 | aa000000 00000000 00000007 00000007 00000000 | true
+    aa000000 00000000 00000007 00000007 00000000 | aa000001 00000000 00000007 00000007 00000000 | false
+    aa000000 00000000 00000007 00000007 00000000 | aa000000 00000001 00000007 00000007 00000000 | false
+    aa000000 00000000 00000007 00000007 00000000 | aa000000 00000000 00000008 00000008 00000000 | false
+    aa000000 00000000 00000007 00000007 00000000 | aa000000 00000000 00000007 00000007 00000001 | false
+    // a key and a target of a lookupswitch, and one case more
+    ab000000 00000000 00000001 00000005 00000000 | ab000000 00000000 00000001 00000005 00000000 | true
+    ab000000 00000000 00000001 00000005 00000000 | ab000000 00000000 00000001 00000006 00000000 | false
+    ab000000 00000000 00000001 00000005 00000000 | ab000000 00000000 00000001 00000005 00000001 | false
+    ab000000 00000000 00000001 00000005 00000000 | ab000000 00000000 00000002 00000005 00000000 00000006 00000000 | false
+";
+
+/// The instruction that bytes are at pc 0.
+fn at_0<R: Abort + AllocGlobal>(rt: &R, bytes: &str) -> Instr {
+    read_instr(rt.alloc(), 0, &bytes_of(rt, bytes))
+        .expect(rt, "memory")
+        .expect(rt, "an instruction")
+}
+
+#[test]
+fn instructions_are_equal_where_they_are_the_same(rt: HostRuntime) {
+    for row in &rows(&rt, COMPARED) {
+        let (one, other, same) = three_of(&rt, row);
+        let one = at_0(&rt, one);
+        let other = at_0(&rt, other);
+        assert!(rt; (one == other) == (same == "true"), "{row}");
+        let one = Placed { pc: 0, instr: one };
+        assert!(rt;
+            (one == Placed {
+                pc: 0,
+                instr: other
+            }) == (same == "true"),
+            "{row}"
+        );
+        assert!(rt;
+            one != Placed {
+                pc: 1,
+                instr: at_0(&rt, "00")
+            },
+            "{row}"
+        );
+    }
+    equality();
 }
