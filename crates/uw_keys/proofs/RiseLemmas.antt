@@ -29,8 +29,8 @@ less_later x y o h e =
           ap (λ (p : Ordering). ordering_then p o) same ∙ e
     ]
 
--- the phase in an interval after a transfer that goes on, after one that goes back to its target, and after one that goes back
--- to a later target
+-- the phase in an interval after a transfer that goes on, after one that goes back to its target, and after one that goes
+-- back to a later target
 module _ (l : ℕ) (i : Interval) (a b c : ℕ) where
   phase_forward : a < b → c ≤ l → phase l i a c ≤ phase l i b (counter_after a b i c)
   phase_forward less within = grind (arith, nat_tests)

@@ -55,8 +55,8 @@ module _ (limit : ℕ → ℕ) (is : List Interval) (a b : ℕ) (cs : List ℕ) 
     within_here : ((counter_after a b i c ≤ limit i.target) × AreWithin limit (drop (place + 1) is) rest)
         ↔ AreWithin limit is (counters_after a b is cs)
     within_here =
-        subst (λ (ds : List ℕ). AreWithin limit (i ∷ drop (place + 1) is) ds ↔ AreWithin limit is (counters_after a b is cs))
-        rest_after
+        subst (λ (ds : List ℕ). AreWithin limit (i ∷ drop (place + 1) is) ds
+        ↔ AreWithin limit is (counters_after a b is cs)) rest_after
         (subst (λ (js : List Interval). AreWithin limit js (counters_after a b (drop place is) (drop place cs))
         ↔ AreWithin limit is (counters_after a b is cs)) intervals_drop so.within)
 
