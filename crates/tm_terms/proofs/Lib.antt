@@ -1,6 +1,10 @@
 pub mod BankLemmas
+pub mod BitRules
 pub mod FoldLemmas
 pub mod KeyLemmas
 pub mod MakeLemmas
+pub mod SameLemmas
+pub mod SumRules
 pub mod TermLemmas
+pub mod TruthRules
 pub mod ValueLemmas

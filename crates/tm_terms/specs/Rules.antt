@@ -1,14 +1,26 @@
 -- What may stand for an operation.
-use Rattle.std.specs.Prelude.{◌≡◌, ◌<◌, ◌+◌, ℕ, List, length, true, false}
+use Rattle.std.specs.Prelude.{◌≡◌, ◌<◌, ◌+◌, ℕ, List, length, true, false, slice_index}
 use Rattle.tm_terms.specs.declared.sort.Sort.TheVariants.{Bool as Truth}
 use Rattle.tm_terms.specs.declared.op.TermId.{TermId}
 use Rattle.tm_terms.specs.declared.op.Operands.{Operands}
 use Rattle.tm_terms.specs.declared.op.Op.{Op}
 use Rattle.tm_terms.specs.declared.numbers.Given.{Given}
 use Rattle.tm_terms.specs.Words.{bit_number}
-use Rattle.tm_terms.specs.Operations.{first_of, second_of, third_of}
+use Rattle.tm_terms.specs.Operations.{operands_of, first_of, second_of, third_of}
+use Rattle.tm_terms.specs.Equations.{named_number}
 use Rattle.tm_terms.specs.Terms.{is_free, free_count, term_sort, term_value, op_sort, op_value, Fits}
 use Rattle.tm_terms.specs.Sharing.{on_constants}
+
+-- the number that an operation names over a bank, before it is taken modulo 2 to the power of its width
+abbrev pub named_of : List Op → List ℕ → Op → ℕ
+named_of ops v op =
+    named_number (first_of Truth (term_sort ops) (operands_of op)) (first_of 0 (term_value ops v) (operands_of op))
+    (second_of 0 (term_value ops v) (operands_of op)) (third_of 0 (term_value ops v) (operands_of op))
+    (slice_index v (free_count ops)) op
+
+-- a term has a number under every valuation
+pub record HasNumber (ops : List Op) (id : TermId) (k : ℕ) : Type 0 where
+  pub value : (v : List ℕ) → term_value ops v id.0 ≡ k
 
 -- another operation with the same sort, and the same value under every valuation
 pub record Replaces (ops : List Op) (op other : Op) : Type 0 where

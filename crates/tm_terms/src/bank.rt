@@ -5,6 +5,7 @@ ghost use Rattle.tm_terms.specs.declared.op.Op.TheVariants.{Free};
 use crate::fold::{folded, sort_of};
 use crate::op::{Op, TermId};
 use crate::places::{place_of, put_at};
+use crate::same::same_term;
 use crate::sort::Sort;
 use crate::values::{Valuation, first_values};
 use jv_base::{List, Mem};
@@ -155,6 +156,9 @@ impl Bank {
         }
         if let Some(place) = place_of(&self.places, op) {
             return Ok(TermId(place));
+        }
+        if let Some(id) = same_term(self, op) {
+            return Ok(id);
         }
         let op = folded(self, op);
         let sort = sort_of(self, op);

@@ -6,8 +6,9 @@ ghost use Rattle.tm_terms.specs.Sharing.{is_const, on_constants, IsReduced};
 ghost use Rattle.tm_terms.specs.Rules.{Replaces, AreGiven};
 
 use crate::bank::Bank;
+use crate::constant::constant_at;
 use crate::numbers::Given;
-use crate::op::{Op, Operands, TermId};
+use crate::op::{Op, Operands};
 use crate::sort::Sort;
 use crate::words::low;
 
@@ -21,20 +22,6 @@ pub(crate) fn sort_of(bank: &Bank, op: Op) -> Sort
         Operands::One(a) => op.sort_over(bank.sort(a), Sort::Bool),
         Operands::Two(a, b) => op.sort_over(bank.sort(a), bank.sort(b)),
         Operands::Three(a, b, _) => op.sort_over(bank.sort(a), bank.sort(b)),
-    }
-}
-
-// The number of a term that is a constant.
-pub(crate) fn constant_at(bank: &Bank, id: TermId) -> Option<u64>
-    requires { id.0 < length bank.now }
-    ensures found { IfSome result (λ k. (v : list_of ℕ) → term_value bank.now v id.0 ≡ k) }
-    ensures some { IfSome result (λ k. is_const (slice_get bank.now id.0) ≡ true) }
-    ensures none { IfNone result (is_const (slice_get bank.now id.0) ≡ false) }
-{
-    bank.laws();
-    match *bank.op(id) {
-        Op::Const(_, number) => Some(number),
-        _ => None,
     }
 }
 

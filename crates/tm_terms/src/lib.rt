@@ -2,11 +2,16 @@
 #![tactic(auto)]
 
 mod bank;
+mod bits;
+mod constant;
 mod fold;
 mod numbers;
 mod op;
 mod places;
+mod same;
 mod sort;
+mod sums;
+mod truths;
 mod values;
 mod words;
 

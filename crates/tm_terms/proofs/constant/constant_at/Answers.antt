@@ -1,7 +1,7 @@
 -- The number of a constant is its value.
 use Rattle.std.proofs.Common.{ap, ◌∙◌, Some}
 use Rattle.tm_terms.proofs.FoldLemmas.{const-value}
-use Rattle.tm_terms.proofs.fold.constant_at.Goals as goal
+use Rattle.tm_terms.proofs.constant.constant_at.Goals as goal
 
 pub returns-in-Const-clause-found : goal.returns-in-Const-clause-found
 returns-in-Const-clause-found c =

@@ -1,0 +1,9 @@
+-- The bits of a word and itself.
+use Rattle.std.proofs.Common.{◌≡◌, rules}
+use Rattle.tm_terms.proofs.BitRules.{bit_and_equal}
+use Rattle.tm_terms.proofs.bits.same_as_bit_and.Goals as goal
+
+pub returns-then-eq : goal.returns-then-eq
+returns-then-eq c =
+    let equal : c.args.b ≡ c.args.a = search rules in
+    bit_and_equal c.args.bank.now c.args.a c.args.b c.requires equal
