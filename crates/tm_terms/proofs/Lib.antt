@@ -2,7 +2,9 @@ pub mod BankLemmas
 pub mod BitRules
 pub mod FoldLemmas
 pub mod KeyLemmas
+pub mod KnownRules
 pub mod MakeLemmas
+pub mod OrderRules
 pub mod SameLemmas
 pub mod SumRules
 pub mod TermLemmas

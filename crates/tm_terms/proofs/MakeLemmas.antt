@@ -55,8 +55,17 @@ unfolding free_count
 frees-push ops op = free_count-append ops (op ∷ []) ∙ omega arith
 
 -- an operation stands for itself
-pub replaces-itself : (ops : List Op) (op : Op) → Fits ops op → is_free op ≡ false → Replaces ops op op
-replaces-itself ops op fits kept = record { fits = fits; sort = refl; value = λ v. refl; kept = kept }
+pub replaces_itself : (ops : List Op) (op : Op) → Fits ops op → is_free op ≡ false → Replaces ops op op
+replaces_itself ops op fits kept = record { fits = fits; sort = refl; value = λ v. refl; kept = kept }
+
+-- and what stands for one that stands for it does
+pub replaces_through : (ops : List Op) (a b c : Op) → Replaces ops a b → Replaces ops b c → Replaces ops a c
+replaces_through ops a b c r s = record {
+  fits = s.fits;
+  sort = s.sort ∙ r.sort;
+  value = λ v. s.value v ∙ r.value v;
+  kept = s.kept;
+}
 
 -- the term of an operation that stands for another
 pub made-by : (old new : List Op) (op other : Op) (id : TermId) → Replaces old op other → is_free op ≡ false → AreTerms new

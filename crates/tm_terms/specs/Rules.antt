@@ -1,11 +1,11 @@
 -- What may stand for an operation.
-use Rattle.std.specs.Prelude.{◌≡◌, ◌<◌, ◌+◌, ℕ, List, length, true, false, slice_index}
+use Rattle.std.specs.Prelude.{◌≡◌, ◌<◌, ◌+◌, ◌-◌, ◌%◌, ◌^◌, ℕ, List, length, true, false, slice_index}
 use Rattle.tm_terms.specs.declared.sort.Sort.TheVariants.{Bool as Truth}
 use Rattle.tm_terms.specs.declared.op.TermId.{TermId}
 use Rattle.tm_terms.specs.declared.op.Operands.{Operands}
 use Rattle.tm_terms.specs.declared.op.Op.{Op}
 use Rattle.tm_terms.specs.declared.numbers.Given.{Given}
-use Rattle.tm_terms.specs.Words.{bit_number}
+use Rattle.tm_terms.specs.Words.{width_of, bit_number}
 use Rattle.tm_terms.specs.Operations.{operands_of, first_of, second_of, third_of}
 use Rattle.tm_terms.specs.Equations.{named_number}
 use Rattle.tm_terms.specs.Terms.{is_free, free_count, term_sort, term_value, op_sort, op_value, Fits}
@@ -50,3 +50,12 @@ pub record IsMade (old new : List Op) (op : Op) (id : TermId) : Type 0 where
   pub sort : term_sort new id.0 ≡ op_sort old op
   pub value : (v : List ℕ) → term_value new v id.0 ≡ op_value old v op
   pub inputs : free_count new ≡ free_count old + bit_number (is_free op)
+
+-- an operation has a number under every valuation
+pub record IsKnown (ops : List Op) (op : Op) (k : ℕ) : Type 0 where
+  pub within : k < 2 ^ width_of (op_sort ops op)
+  pub value : (v : List ℕ) → op_value ops v op ≡ k
+
+-- two terms have opposite truth values
+pub record AreOpposite (ops : List Op) (a b : TermId) : Type 0 where
+  pub value : (v : List ℕ) → term_value ops v b.0 ≡ (1 - term_value ops v a.0) % 2

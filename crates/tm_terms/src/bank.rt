@@ -2,7 +2,7 @@
 ghost use Rattle.std.specs.Prelude.{◌≡◌, ◌<◌, ◌+◌, [], ◌∷◌, ◌++◌, ℕ, true, false, length, slice_get, Some, None, IfOk, OnOk, IfSome, IfNone, OnErr, ◌⊎◌};
 ghost use Rattle.tm_terms.specs.declared.op.Op.TheVariants.{Free};
 
-use crate::fold::{folded, sort_of};
+use crate::fold::{simplified, sort_of};
 use crate::op::{Op, TermId};
 use crate::places::{place_of, put_at};
 use crate::same::same_term;
@@ -160,7 +160,7 @@ impl Bank {
         if let Some(id) = same_term(self, op) {
             return Ok(id);
         }
-        let op = folded(self, op);
+        let op = simplified(self, op);
         let sort = sort_of(self, op);
         self.share(op, sort)
     }

@@ -7,8 +7,10 @@ ghost use Rattle.tm_terms.specs.Rules.{Replaces, AreGiven};
 
 use crate::bank::Bank;
 use crate::constant::constant_at;
+use crate::known::known_number;
 use crate::numbers::Given;
 use crate::op::{Op, Operands};
+use crate::order::ordered;
 use crate::sort::Sort;
 use crate::words::low;
 
@@ -63,7 +65,7 @@ fn given_by(bank: &Bank, operands: Operands) -> Option<Given>
 }
 
 // The operation, or the constant that it is if its operands are constants.
-pub(crate) fn folded(bank: &Bank, op: Op) -> Op
+fn folded(bank: &Bank, op: Op) -> Op
     requires fits { Fits bank.now op }
     requires kept { is_free op ≡ false }
     ensures replaces { Replaces bank.now op result }
@@ -73,8 +75,22 @@ pub(crate) fn folded(bank: &Bank, op: Op) -> Op
     if let Op::Const(sort, number) = op {
         return Op::Const(sort, low(sort, number));
     }
+    if let Some(number) = known_number(bank, op) {
+        return Op::Const(sort_of(bank, op), number);
+    }
     match given_by(bank, op.operands()) {
         Some(given) => Op::Const(op.sort_over(given.s, given.t), op.number_over(given, 0)),
         None => op,
     }
+}
+
+// An operation that stands for this one, with ordered operands that are not all constants.
+pub(crate) fn simplified(bank: &Bank, op: Op) -> Op
+    requires fits { Fits bank.now op }
+    requires kept { is_free op ≡ false }
+    ensures replaces { Replaces bank.now op result }
+    ensures folded { on_constants bank.now (operands_of result) ≡ false }
+    ensures reduced { IsReduced result }
+{
+    folded(bank, ordered(op))
 }

@@ -5,7 +5,7 @@ use Rattle.std.proofs.lemmas.List.{append-nil}
 use Rattle.tm_terms.specs.Terms.{is_free, AreTerms}
 use Rattle.tm_terms.specs.Sharing.{AreShared}
 use Rattle.tm_terms.proofs.BankLemmas.{shared-by}
-use Rattle.tm_terms.proofs.MakeLemmas.{made-by, replaces-itself}
+use Rattle.tm_terms.proofs.MakeLemmas.{made-by, replaces_itself}
 use Rattle.tm_terms.proofs.bank.Bank.make.Goals as goal
 
 pub returns-in-Some : goal.returns-in-Some
@@ -18,7 +18,7 @@ returns-in-Some c =
     rw (← c.self.view_is) (c.self.invariant.placed.found c.args.op c.in-Some.place (sym c.in-Some.ensures)) in
     record {
       made = made-by old old c.args.op c.args.op (record { 0 = c.in-Some.place })
-          (replaces-itself old c.args.op c.requires kept) kept terms (inl refl) found;
+          (replaces_itself old c.args.op c.requires kept) kept terms (inl refl) found;
       keeps = ([], sym (append-nil old));
       free = λ f. absurd (true≢false (sym f ∙ kept));
       again = λ k _ e. (shared c.in-Some.place k c.args.op kept found e, refl);
