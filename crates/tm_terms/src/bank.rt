@@ -4,7 +4,7 @@ ghost use Rattle.tm_terms.specs.declared.op.Op.TheVariants.{Free};
 
 use crate::fold::{simplified, sort_of};
 use crate::op::{Op, TermId};
-use crate::places::{place_of, put_at};
+use crate::places::{copied, place_of, put_at};
 use crate::same::same_term;
 use crate::sort::Sort;
 use crate::values::{Valuation, first_values};
@@ -66,6 +66,17 @@ impl Bank {
             sorts: List::new(alloc),
             places: HashMap::new(alloc),
         }
+    }
+
+    /// A bank with the same terms.
+    pub fn copy(&self, alloc: Global) -> Mem<Bank>
+        ensures { IfOk result (λ copy. copy ≡ self.now) }
+    {
+        Ok(Bank {
+            ops: List::copied(alloc, self.ops.as_slice())?,
+            sorts: List::copied(alloc, self.sorts.as_slice())?,
+            places: copied(&self.places)?,
+        })
     }
 
     /// The operation that stands at a place.

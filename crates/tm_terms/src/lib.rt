@@ -18,6 +18,6 @@ mod values;
 mod words;
 
 pub use bank::Bank;
-pub use op::{Op, Operands, TermId};
+pub use op::{Op, Operands, StrTerm, TermId};
 pub use sort::Sort;
 pub use values::Valuation;

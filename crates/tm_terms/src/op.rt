@@ -2,6 +2,7 @@
 ghost use Rattle.std.specs.Prelude.{◌≡◌};
 
 use crate::sort::Sort;
+use jv_base::List;
 
 /// The place of a term in its bank.
 #[derive(Clone, Copy, Debug, PartialEq, Eq, Hash)]
@@ -33,6 +34,13 @@ pub enum Op {
     Widen(Sort, TermId),
     WidenZero(Sort, TermId),
     Cut(Sort, TermId),
+}
+
+/// A text: its length, and its units, of which those below the length count.
+#[derive(Debug, Drop)]
+pub struct StrTerm {
+    pub length: TermId,
+    pub units: List<TermId>,
 }
 
 /// The terms that an operation is applied to, in order.

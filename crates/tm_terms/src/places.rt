@@ -1,5 +1,5 @@
 // Where each operation stands, by a map.
-ghost use Rattle.std.specs.Prelude.{◌≡◌, OnOk, OnErr};
+ghost use Rattle.std.specs.Prelude.{◌≡◌, IfOk, OnOk, OnErr};
 ghost use Rattle.tm_terms.specs.BankView.{place_in, PutsAt, HasSame};
 
 use crate::op::Op;
@@ -20,4 +20,11 @@ pub(crate) fn put_at(places: &mut HashMap<Op, u64>, op: Op, place: u64) -> Mem<(
 {
     places.insert(op, place)?;
     Ok(())
+}
+
+// The same places.
+pub(crate) fn copied(places: &HashMap<Op, u64>) -> Mem<HashMap<Op, u64>>
+    ensures { IfOk result (λ copy. HasSame places.now copy) }
+{
+    places.clone()
 }
