@@ -79,6 +79,13 @@ impl Bank {
         })
     }
 
+    /// How many terms there are. Their places are the numbers below that.
+    pub fn count(&self) -> u64
+        ensures { result ≡ length self.now }
+    {
+        self.ops.length() as u64
+    }
+
     /// The operation that stands at a place.
     pub fn op(&self, id: TermId) -> &Op
         requires { id.0 < length self.now }

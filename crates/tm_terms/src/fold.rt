@@ -1,6 +1,7 @@
 // Operations on constants, which are constants.
 ghost use Rattle.std.specs.Prelude.{◌≡◌, ◌<◌, ◌↔◌, true, false, ℕ, length, slice_get, Some, IfSome, IfNone, IsSome, List as list_of};
-ghost use Rattle.tm_terms.specs.Operations.{operands_of, AreBelow};
+ghost use Rattle.tm_terms.specs.declared.sort.Sort.TheVariants.{Bool as Truth};
+ghost use Rattle.tm_terms.specs.Operations.{operands_of, first_of, second_of, AreBelow};
 ghost use Rattle.tm_terms.specs.Terms.{term_sort, term_value, op_sort, Fits, is_free};
 ghost use Rattle.tm_terms.specs.Sharing.{is_const, on_constants, IsReduced};
 ghost use Rattle.tm_terms.specs.Rules.{Replaces, AreGiven};
@@ -14,17 +15,26 @@ use crate::order::ordered;
 use crate::sort::Sort;
 use crate::words::low;
 
+// The sorts of the first two operands.
+pub(crate) fn first_sorts(bank: &Bank, operands: Operands) -> (Sort, Sort)
+    requires { AreBelow (length bank.now) operands }
+    ensures s { result.0 ≡ first_of Truth (term_sort bank.now) operands }
+    ensures t { result.1 ≡ second_of Truth (term_sort bank.now) operands }
+{
+    match operands {
+        Operands::Nothing => (Sort::Bool, Sort::Bool),
+        Operands::One(a) => (bank.sort(a), Sort::Bool),
+        Operands::Two(a, b) | Operands::Three(a, b, _) => (bank.sort(a), bank.sort(b)),
+    }
+}
+
 // The sort of an operation on terms of the bank.
 pub(crate) fn sort_of(bank: &Bank, op: Op) -> Sort
     requires { AreBelow (length bank.now) (operands_of op) }
     ensures { result ≡ op_sort bank.now op }
 {
-    match op.operands() {
-        Operands::Nothing => op.sort_over(Sort::Bool, Sort::Bool),
-        Operands::One(a) => op.sort_over(bank.sort(a), Sort::Bool),
-        Operands::Two(a, b) => op.sort_over(bank.sort(a), bank.sort(b)),
-        Operands::Three(a, b, _) => op.sort_over(bank.sort(a), bank.sort(b)),
-    }
+    let (s, t) = first_sorts(bank, op.operands());
+    op.sort_over(s, t)
 }
 
 // The sorts and numbers of operands that are constants.
@@ -37,10 +47,10 @@ fn given_by(bank: &Bank, operands: Operands) -> Option<Given>
         Operands::Nothing => None,
         Operands::One(a) => {
             let x = constant_at(bank, a)?;
-            let s = bank.sort(a);
+            let (s, t) = first_sorts(bank, operands);
             Some(Given {
                 s,
-                t: Sort::Bool,
+                t,
                 x,
                 y: 0,
                 z: 0,
@@ -49,16 +59,14 @@ fn given_by(bank: &Bank, operands: Operands) -> Option<Given>
         Operands::Two(a, b) => {
             let x = constant_at(bank, a)?;
             let y = constant_at(bank, b)?;
-            let s = bank.sort(a);
-            let t = bank.sort(b);
+            let (s, t) = first_sorts(bank, operands);
             Some(Given { s, t, x, y, z: 0 })
         }
         Operands::Three(a, b, c) => {
             let x = constant_at(bank, a)?;
             let y = constant_at(bank, b)?;
             let z = constant_at(bank, c)?;
-            let s = bank.sort(a);
-            let t = bank.sort(b);
+            let (s, t) = first_sorts(bank, operands);
             Some(Given { s, t, x, y, z })
         }
     }

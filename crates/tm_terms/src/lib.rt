@@ -4,6 +4,7 @@
 mod bank;
 mod bits;
 mod constant;
+mod fits;
 mod fold;
 mod known;
 mod numbers;
