@@ -1,7 +1,7 @@
 // Thin methods of class files that javac wrote, whole and damaged.
 use crate::names::method;
 use crate::tables::{bytes_of, cut, number_of, rows, three_of};
-use cf_class::{ThinMethod, read_thin};
+use cf_thin::{ThinMethod, read_thin};
 use std::process::Abort;
 
 // javac --release 8 -g:none of `class T { static void f(int a, int b) { if (a == b) throw null; } }`.

@@ -1,6 +1,6 @@
 // Thin code, and its instructions (JVM Specification SE 8, 6.5).
 use crate::tables::{bytes_of, cut, number_of, rows, three_of, two_of};
-use cf_class::{go_forward, is_thin_code, thin_instr_at, weaker_order};
+use cf_thin::{go_forward, is_thin_code, thin_instr_at, weaker_order};
 use std::process::Abort;
 
 // Bytes, a pc, and the instruction there with the pc after it, as they are printed.

@@ -2,14 +2,14 @@
 use Rattle.std.proofs.Common.{◌++◌, append_assoc, ◌≡◌, ◌≤◌, ◌+◌, ℕ, zero, suc, Bool, true, false, List, [], ◌∷◌}
 use Rattle.std.proofs.Common.{length, Option, Some, None, refl, sym, ap, subst, ◌∙◌, arith, replicate, ◌-◌}
 use Rattle.std.proofs.lemmas.List.{length-append, length-replicate}
-use Rattle.cf_class.specs.declared.shape.Shape.{Shape}
-use Rattle.cf_class.specs.declared.shape.Limits.{Limits}
-use Rattle.cf_class.specs.ThinCode.{IsStart, Shapes, MeetsRules, HasInstrs, IsThin, entry_locals, IsKnownLess, First}
-use Rattle.cf_class.specs.Calls.Passes.{Covers, IsSound, shape_at}
-use Rattle.cf_class.proofs.KnownLemmas.{known_refl}
-use Rattle.cf_class.proofs.SweepLemmas.{start_within}
-use Rattle.cf_class.specs.declared.shape.OperandType.{OperandType}
-use Rattle.cf_class.proofs.GrowthLemmas.{same_some}
+use Rattle.cf_thin.specs.declared.shape.Shape.{Shape}
+use Rattle.cf_thin.specs.declared.shape.Limits.{Limits}
+use Rattle.cf_thin.specs.ThinCode.{IsStart, Shapes, MeetsRules, HasInstrs, IsThin, entry_locals, IsKnownLess, First}
+use Rattle.cf_thin.specs.Calls.Passes.{Covers, IsSound, shape_at}
+use Rattle.cf_thin.proofs.KnownLemmas.{known_refl}
+use Rattle.cf_thin.proofs.SweepLemmas.{start_within}
+use Rattle.cf_thin.specs.declared.shape.OperandType.{OperandType}
+use Rattle.cf_thin.proofs.GrowthLemmas.{same_some}
 
 none_found : (count pc : ℕ) (s : Shape) → shape_at (replicate count None) pc ≡ Some s → ⊥
 none_found zero pc s is = cc

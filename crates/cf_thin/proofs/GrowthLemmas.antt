@@ -2,10 +2,10 @@
 use Rattle.std.proofs.Common.{◌≡◌, ◌≢◌, ◌<◌, ◌≤◌, ◌⊎◌, ℕ, zero, suc, List, [], ◌∷◌, length, slice_set, Option, Some}
 use Rattle.std.proofs.Common.{None, refl, sym, ap, subst, ◌∙◌, arith, inl, inr}
 use Rattle.std.proofs.lemmas.List.{length-set}
-use Rattle.cf_class.specs.declared.shape.Shape.{Shape}
-use Rattle.cf_class.specs.ThinCode.{IsStart, Shapes, IsLed, IsWeaker}
-use Rattle.cf_class.specs.Calls.Passes.{Differs, LeadsTo, LeadsToAny, RefusesAny, HaveLocals, Covers, FlowsTo, shape_at}
-use Rattle.cf_class.proofs.KnownLemmas.{weaker_refl, weaker_trans, known_length, joins_shape, joins_known, joins_most}
+use Rattle.cf_thin.specs.declared.shape.Shape.{Shape}
+use Rattle.cf_thin.specs.ThinCode.{IsStart, Shapes, IsLed, IsWeaker}
+use Rattle.cf_thin.specs.Calls.Passes.{Differs, LeadsTo, LeadsToAny, RefusesAny, HaveLocals, Covers, FlowsTo, shape_at}
+use Rattle.cf_thin.proofs.KnownLemmas.{weaker_refl, weaker_trans, known_length, joins_shape, joins_known, joins_most}
 use Rattle.jv_list.proofs.TestLemmas.{same_or_not}
 
 pub same_some : (x y : Shape) → Some x ≡ Some y → x ≡ y

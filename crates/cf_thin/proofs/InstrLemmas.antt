@@ -4,11 +4,11 @@ use Rattle.std.proofs.lemmas.Option.{some_pair_parts}
 use Rattle.std.specs.Int.{w8, cast_signed}
 use Rattle.std.proofs.Common.{◌+◌, length, drop, ℤ, slice_get, option_and_then, Option, ◌∙◌, ◌≡◌, ℕ, suc, ◌<◌, ◌≤◌}
 use Rattle.std.proofs.Common.{List, [], ◌∷◌, Some, None, refl, sym, ap, arith, option_map}
-use Rattle.cf_class.specs.declared.instr.ThinInstr.{ThinInstr}
-use Rattle.cf_class.specs.declared.instr.ThinInstr.TheVariants.{Iconst}
-use Rattle.cf_class.specs.Instr.{Format, Alone, OfLocal, OfByte, OfShort, OfBranch, format_of, alone, jump_to}
-use Rattle.cf_class.specs.Instr.{first_short, signed_short, forward, with_operands, first_instr, instr_at, branch}
-use Rattle.cf_class.proofs.OpcodeLemmas.{IsSimple, alone_or_branch, row_16, row_17}
+use Rattle.cf_thin.specs.declared.instr.ThinInstr.{ThinInstr}
+use Rattle.cf_thin.specs.declared.instr.ThinInstr.TheVariants.{Iconst}
+use Rattle.cf_thin.specs.Instr.{Format, Alone, OfLocal, OfByte, OfShort, OfBranch, format_of, alone, jump_to}
+use Rattle.cf_thin.specs.Instr.{first_short, signed_short, forward, with_operands, first_instr, instr_at, branch}
+use Rattle.cf_thin.proofs.OpcodeLemmas.{IsSimple, alone_or_branch, row_16, row_17}
 
 -- an instruction alone needs no operand
 alone_operand : (pc : ℕ) (format : Option Format) (rest : List ℕ) (instr : ThinInstr) → alone format ≡ Some instr

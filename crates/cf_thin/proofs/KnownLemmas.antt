@@ -2,13 +2,13 @@
 use Rattle.std.proofs.Common.{◌≡◌, ◌⊎◌, ◌&&◌, ◌++◌, ℕ, zero, suc, Bool, true, false, List, [], ◌∷◌, length, slice_get}
 use Rattle.std.proofs.Common.{slice_set, Option, Some, None, refl, sym, ap, subst, ◌∙◌, arith, inl, inr}
 use Rattle.std.proofs.lemmas.List.{append_cancel_right, length-set}
-use Rattle.cf_class.specs.declared.instr.ThinInstr.{ThinInstr}
-use Rattle.cf_class.specs.declared.instr.ThinInstr.TheVariants.{Iload, Istore}
-use Rattle.cf_class.specs.declared.shape.OperandType.{OperandType}
-use Rattle.cf_class.specs.declared.shape.Shape.{Shape}
-use Rattle.cf_class.specs.declared.shape.Limits.{Limits}
-use Rattle.cf_class.specs.ThinCode.{takes, leaves, LocalsStep, StackSteps, Steps, IsKnownLess, IsWeaker}
-use Rattle.cf_class.specs.Calls.Passes.{both_known, AreJoined, JoinsFound}
+use Rattle.cf_thin.specs.declared.instr.ThinInstr.{ThinInstr}
+use Rattle.cf_thin.specs.declared.instr.ThinInstr.TheVariants.{Iload, Istore}
+use Rattle.cf_thin.specs.declared.shape.OperandType.{OperandType}
+use Rattle.cf_thin.specs.declared.shape.Shape.{Shape}
+use Rattle.cf_thin.specs.declared.shape.Limits.{Limits}
+use Rattle.cf_thin.specs.ThinCode.{takes, leaves, LocalsStep, StackSteps, Steps, IsKnownLess, IsWeaker}
+use Rattle.cf_thin.specs.Calls.Passes.{both_known, AreJoined, JoinsFound}
 
 -- one local is known less than another
 abbrev Less : Bool → Bool → Type 0

@@ -1,11 +1,11 @@
 -- What one shape that is put at a pc reads and writes.
 use Rattle.std.proofs.Common.{◌≡◌, ◌<◌, ℕ, List, length, slice_set, option_and_then, Option, Some, None, refl, sym, ap}
 use Rattle.std.proofs.Common.{subst, ◌∙◌, arith, inr, IfSome, get_or}
-use Rattle.cf_class.specs.declared.shape.Shape.{Shape}
-use Rattle.cf_class.specs.Calls.Passes.{JoinsFound, Differs, LeadsToAny, RefusesAny, HaveLocals, shape_at}
-use Rattle.cf_class.proofs.KnownLemmas.{known_length, joins_shape}
+use Rattle.cf_thin.specs.declared.shape.Shape.{Shape}
+use Rattle.cf_thin.specs.Calls.Passes.{JoinsFound, Differs, LeadsToAny, RefusesAny, HaveLocals, shape_at}
+use Rattle.cf_thin.proofs.KnownLemmas.{known_length, joins_shape}
 use Rattle.std.proofs.lemmas.Option.{slice_get_read}
-use Rattle.cf_class.proofs.GrowthLemmas.{same_some, put_same, put_other}
+use Rattle.cf_thin.proofs.GrowthLemmas.{same_some, put_same, put_other}
 use Rattle.jv_list.proofs.TestLemmas.{same_or_not}
 
 -- what is read at an index is what is found there

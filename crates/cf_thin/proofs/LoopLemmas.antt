@@ -2,10 +2,10 @@
 use Rattle.std.proofs.Common.{◌≡◌, ℕ, suc, ◌-◌, ◌+◌, ◌≤◌, ◌<◌, Bool, true, false, List, [], ◌∷◌, ◌++◌, Option, Some}
 use Rattle.std.proofs.Common.{None, refl, sym, ap, ◌∙◌, append_assoc, arith}
 use Rattle.std.proofs.lemmas.List.{append-nil}
-use Rattle.cf_class.specs.declared.walk.Refusal.{Refusal}
-use Rattle.cf_class.specs.declared.walk.Refusal.TheVariants.{NoMemory, Malformed}
-use Rattle.cf_class.specs.Walk.{◌>>=◌, many_at, CpInfo, is_wide, next_info_at, infos_at}
-use Rattle.cf_class.specs.Calls.Views.{Fails}
+use Rattle.cf_thin.specs.declared.walk.Refusal.{Refusal}
+use Rattle.cf_thin.specs.declared.walk.Refusal.TheVariants.{NoMemory, Malformed}
+use Rattle.cf_thin.specs.Walk.{◌>>=◌, many_at, CpInfo, is_wide, next_info_at, infos_at}
+use Rattle.cf_thin.specs.Calls.Views.{Fails}
 
 -- what was read before, and what is still read
 abbrev pub with_front : {A : Type 0} → List A → Option (List A × List ℕ) → Option (List A × List ℕ)

@@ -1,9 +1,9 @@
 -- What the table of opcodes says of an opcode.
 use Rattle.std.proofs.Common.{◌+◌, find, Option, subst, eqb-true, ◌∙◌, ◌≡◌, ℕ, zero, suc, ◌≤◌, ◌==◌, true, false, cond}
 use Rattle.std.proofs.Common.{List, [], ◌∷◌, Some, None, refl, sym, ap, arith, ◌-ℤ◌, pos, ◌-◌, option_map}
-use Rattle.cf_class.specs.declared.instr.ThinInstr.TheVariants.{Iconst, Iload, Istore}
-use Rattle.cf_class.specs.Instr.{Format, Alone, OfLocal, OfByte, OfShort, OfBranch, Row, opcodes, format_in, format_of}
-use Rattle.cf_class.specs.Instr.{alone, jump_to}
+use Rattle.cf_thin.specs.declared.instr.ThinInstr.TheVariants.{Iconst, Iload, Istore}
+use Rattle.cf_thin.specs.Instr.{Format, Alone, OfLocal, OfByte, OfShort, OfBranch, Row, opcodes, format_in, format_of}
+use Rattle.cf_thin.specs.Instr.{alone, jump_to}
 
 -- the opcodes from iconst_m1 to iconst_5
 pub iconst_row : (op : ℕ) → 2 ≤ op → op ≤ 8 → alone (format_of op) ≡ Some (Iconst (pos op -ℤ pos 3))

@@ -1,12 +1,12 @@
 -- Shapes, what is known of their locals, and the steps from one to another.
 use Rattle.std.proofs.lemmas.Slice.Eq.{slice_eq-Decides}
 use Rattle.std.specs.Cmp.Lexicographic.{pointwise}
-use Rattle.cf_class.specs.Calls.Passes.{both_known}
+use Rattle.cf_thin.specs.Calls.Passes.{both_known}
 use Rattle.std.proofs.Common.{◌≡◌, ◌<◌, ◌+◌, ◌++◌, ◌&&◌, ℕ, List, [], ◌∷◌, length, drop, get_or, drop-cons, add-one}
 use Rattle.std.proofs.Common.{append_assoc, not, Bool, true, false, Decides, refl, sym, arith}
-use Rattle.cf_class.specs.contracts.shape.OperandTypePartialEq.TheImpl.{eq-value}
-use Rattle.cf_class.specs.declared.shape.OperandType.{OperandType}
-use Rattle.cf_class.specs.declared.shape.OperandType.TheVariants.{Int, Reference}
+use Rattle.cf_thin.specs.contracts.shape.OperandTypePartialEq.TheImpl.{eq-value}
+use Rattle.cf_thin.specs.declared.shape.OperandType.{OperandType}
+use Rattle.cf_thin.specs.declared.shape.OperandType.TheVariants.{Int, Reference}
 use Rattle.std.proofs.lemmas.Bool.{both_ways, not-true, not-false}
 
 -- `==` on operands decides whether they are equal

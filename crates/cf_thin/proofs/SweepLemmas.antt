@@ -3,11 +3,11 @@ use Rattle.std.proofs.Common.{◌≡◌, ◌≢◌, ◌↔◌, IsTrue, ◌<◌, 
 use Rattle.std.proofs.Common.{[], ◌∷◌, length, slice_get, Some, None, refl, sym, ap, subst, ◌∙◌, arith, inl, inr}
 use Rattle.std.proofs.Common.{length-append}
 use Rattle.std.proofs.lemmas.Bool.{cases_lt}
-use Rattle.cf_class.specs.declared.instr.ThinInstr.{ThinInstr}
-use Rattle.cf_class.specs.Instr.{instr_at}
-use Rattle.cf_class.specs.ThinCode.{IsStart, First, Next, target_of}
-use Rattle.cf_class.specs.Calls.Passes.{AreStarts, AreWhole, IsAimed, GoesOn}
-use Rattle.cf_class.proofs.InstrLemmas.{instr_ends, found_parts}
+use Rattle.cf_thin.specs.declared.instr.ThinInstr.{ThinInstr}
+use Rattle.cf_thin.specs.Instr.{instr_at}
+use Rattle.cf_thin.specs.ThinCode.{IsStart, First, Next, target_of}
+use Rattle.cf_thin.specs.Calls.Passes.{AreStarts, AreWhole, IsAimed, GoesOn}
+use Rattle.cf_thin.proofs.InstrLemmas.{instr_ends, found_parts}
 use Rattle.jv_list.proofs.PlaceLemmas.{slice_get-push_last, slice_get-push_other, slice_get-push_cases}
 
 -- an instruction begins within the code

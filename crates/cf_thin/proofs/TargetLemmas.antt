@@ -3,12 +3,12 @@ use Rattle.std.proofs.lemmas.Option.{cond_some, none-some}
 use Rattle.std.specs.Int.{w8, cast_signed}
 use Rattle.std.proofs.Common.{nat_le, negsuc, ◌+◌, drop, ℤ, option_and_then, Option, ◌∙◌, ◌≡◌, ℕ, zero, suc, ◌<◌, List}
 use Rattle.std.proofs.Common.{[], ◌∷◌, Some, None, refl, sym, ap, arith, pos, option_map}
-use Rattle.cf_class.specs.declared.instr.ThinInstr.{ThinInstr}
-use Rattle.cf_class.specs.ThinCode.{target_of}
-use Rattle.cf_class.specs.Instr.{Format, Alone, OfLocal, OfByte, OfShort, OfBranch, opcodes, format_of, signed_short}
-use Rattle.cf_class.specs.Instr.{forward, with_operands, first_instr, instr_at}
-use Rattle.cf_class.proofs.OpcodeLemmas.{at_row, ◌also◌}
-use Rattle.cf_class.proofs.InstrLemmas.{found_parts, found_ends}
+use Rattle.cf_thin.specs.declared.instr.ThinInstr.{ThinInstr}
+use Rattle.cf_thin.specs.ThinCode.{target_of}
+use Rattle.cf_thin.specs.Instr.{Format, Alone, OfLocal, OfByte, OfShort, OfBranch, opcodes, format_of, signed_short}
+use Rattle.cf_thin.specs.Instr.{forward, with_operands, first_instr, instr_at}
+use Rattle.cf_thin.proofs.OpcodeLemmas.{at_row, ◌also◌}
+use Rattle.cf_thin.proofs.InstrLemmas.{found_parts, found_ends}
 
 -- a jump of thin code goes forward
 forward_is : (pc target : ℕ) (z : ℤ) → forward pc z ≡ Some target → pc < target

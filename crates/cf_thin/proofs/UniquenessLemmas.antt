@@ -3,13 +3,13 @@ use Rattle.std.proofs.Common.{◌≡◌, ◌≤◌, ℕ, suc, ◌+◌, Bool, tru
 use Rattle.std.proofs.Common.{Some, Result, Ok, Err, refl, sym, ap, subst, ◌∙◌, arith}
 use Rattle.std.proofs.lemmas.List.{drop_at, length-append, length-replicate}
 use Rattle.jv_base.specs.declared.method.MethodId.{MethodId}
-use Rattle.cf_class.specs.declared.walk.Refusal.{Refusal}
-use Rattle.cf_class.specs.declared.walk.Refusal.TheVariants.{NoMemory, Malformed}
-use Rattle.cf_class.specs.declared.thin.ThinMethod.{ThinMethod}
-use Rattle.cf_class.specs.Walk.{CpInfo, AttributeInfo, MemberInfo, ClassFileInfo, CodeInfo, class_at, code_at}
-use Rattle.cf_class.specs.Calls.Finds.{Finds}
-use Rattle.cf_class.specs.ThinCode.{ThinCode}
-use Rattle.cf_class.specs.Thin.{end_of, int_descriptor, IsCodeOfMethod, IsCodeOfEntry, Thin}
+use Rattle.cf_thin.specs.declared.walk.Refusal.{Refusal}
+use Rattle.cf_thin.specs.declared.walk.Refusal.TheVariants.{NoMemory, Malformed}
+use Rattle.cf_thin.specs.declared.thin.ThinMethod.{ThinMethod}
+use Rattle.cf_thin.specs.Walk.{CpInfo, AttributeInfo, MemberInfo, ClassFileInfo, CodeInfo, class_at, code_at}
+use Rattle.cf_thin.specs.Calls.Finds.{Finds}
+use Rattle.cf_thin.specs.ThinCode.{ThinCode}
+use Rattle.cf_thin.specs.Thin.{end_of, int_descriptor, IsCodeOfMethod, IsCodeOfEntry, Thin}
 use Rattle.jv_list.proofs.TestLemmas.{head_same, some_same}
 
 pub Finds-same : {X Y : Type 0} (view : X → Y) (r : Result X Refusal) (P Q : Y → Type 0) → ((y : Y) → P y → Q y)

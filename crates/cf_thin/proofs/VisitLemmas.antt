@@ -2,21 +2,21 @@
 use Rattle.std.proofs.Common.{◌≡◌, ◌<◌, ◌+◌, ℕ, true, List, length, Option, Some, None, refl, sym, ap}
 use Rattle.std.proofs.Common.{subst, ◌∙◌, arith, inl, inr}
 use Rattle.std.proofs.lemmas.List.{length-set}
-use Rattle.cf_class.specs.declared.instr.ThinInstr.{ThinInstr}
-use Rattle.cf_class.specs.declared.shape.Shape.{Shape}
-use Rattle.cf_class.specs.declared.shape.Limits.{Limits}
-use Rattle.cf_class.specs.Instr.{instr_at}
-use Rattle.cf_class.specs.ThinCode.{IsStart, Next, Shapes, IsLed, Steps, Flows, MeetsRules, HasInstrs, falls_through}
-use Rattle.cf_class.specs.ThinCode.{target_of}
-use Rattle.cf_class.specs.Calls.Passes.{LeadsToAny, HaveLocals, Covers, IsSound, FlowsTo, CannotFlow, fall_of, shape_at}
-use Rattle.cf_class.proofs.KnownLemmas.{known_length, steps_length, steps_more, steps_weaker}
-use Rattle.cf_class.proofs.InstrLemmas.{instr_ends, found_parts}
-use Rattle.cf_class.proofs.TargetLemmas.{target_forward}
-use Rattle.cf_class.proofs.SweepLemmas.{start_within}
+use Rattle.cf_thin.specs.declared.instr.ThinInstr.{ThinInstr}
+use Rattle.cf_thin.specs.declared.shape.Shape.{Shape}
+use Rattle.cf_thin.specs.declared.shape.Limits.{Limits}
+use Rattle.cf_thin.specs.Instr.{instr_at}
+use Rattle.cf_thin.specs.ThinCode.{IsStart, Next, Shapes, IsLed, Steps, Flows, MeetsRules, HasInstrs, falls_through}
+use Rattle.cf_thin.specs.ThinCode.{target_of}
+use Rattle.cf_thin.specs.Calls.Passes.{LeadsToAny, HaveLocals, Covers, IsSound, FlowsTo, CannotFlow, fall_of, shape_at}
+use Rattle.cf_thin.proofs.KnownLemmas.{known_length, steps_length, steps_more, steps_weaker}
+use Rattle.cf_thin.proofs.InstrLemmas.{instr_ends, found_parts}
+use Rattle.cf_thin.proofs.TargetLemmas.{target_forward}
+use Rattle.cf_thin.proofs.SweepLemmas.{start_within}
 use Rattle.std.proofs.lemmas.Option.{cond_some}
-use Rattle.cf_class.specs.declared.shape.OperandType.{OperandType}
-use Rattle.cf_class.proofs.GrowthLemmas.{same_some, led_weaker, led_covers, IsBehind, flow_grows}
-use Rattle.cf_class.proofs.GrowthLemmas.{lead_any_covers, refuses_not}
+use Rattle.cf_thin.specs.declared.shape.OperandType.{OperandType}
+use Rattle.cf_thin.proofs.GrowthLemmas.{same_some, led_weaker, led_covers, IsBehind, flow_grows}
+use Rattle.cf_thin.proofs.GrowthLemmas.{lead_any_covers, refuses_not}
 use Rattle.jv_list.proofs.TestLemmas.{same_or_not}
 
 leads_long : (old new : List (Option Shape)) (shape : Shape) (to : Option ℕ) → LeadsToAny old shape to new

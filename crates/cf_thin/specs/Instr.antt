@@ -3,9 +3,9 @@ use Rattle.std.specs.Prelude.{◌+◌, ◌*◌, ◌==◌, ℕ, zero, suc, ℤ, p
 use Rattle.std.specs.Prelude.{find, Option, Some, None}
 use Rattle.std.specs.Int.{w8, w16, cast_signed}
 use Rattle.std.specs.Option.{option_map, option_and_then}
-use Rattle.cf_class.specs.declared.instr.ThinInstr.{ThinInstr}
-use Rattle.cf_class.specs.declared.instr.ThinInstr.TheVariants.{AconstNull, Iconst, Iload, Istore, Ixor, Ifeq, Ifne}
-use Rattle.cf_class.specs.declared.instr.ThinInstr.TheVariants.{IfIcmpeq, IfIcmpne, Goto, Ireturn, Return, Athrow}
+use Rattle.cf_thin.specs.declared.instr.ThinInstr.{ThinInstr}
+use Rattle.cf_thin.specs.declared.instr.ThinInstr.TheVariants.{AconstNull, Iconst, Iload, Istore, Ixor, Ifeq, Ifne}
+use Rattle.cf_thin.specs.declared.instr.ThinInstr.TheVariants.{IfIcmpeq, IfIcmpne, Goto, Ireturn, Return, Athrow}
 
 -- what stands behind an opcode, and the instruction that it makes of it
 pub data Format : Type 0 where

@@ -1,9 +1,9 @@
 -- What holds of the definitions.
 use Rattle.std.specs.Prelude.{◌≡◌, ◌<◌, ◌≤◌, ℕ, List, length, Some}
-use Rattle.cf_class.specs.declared.instr.ThinInstr.{ThinInstr}
-use Rattle.cf_class.specs.declared.shape.Shape.{Shape}
-use Rattle.cf_class.specs.Instr.{instr_at}
-use Rattle.cf_class.specs.ThinCode.{target_of, IsWeaker}
+use Rattle.cf_thin.specs.declared.instr.ThinInstr.{ThinInstr}
+use Rattle.cf_thin.specs.declared.shape.Shape.{Shape}
+use Rattle.cf_thin.specs.Instr.{instr_at}
+use Rattle.cf_thin.specs.ThinCode.{target_of, IsWeaker}
 
 -- an instruction of the code whose opcode is at a pc: it ends behind that pc and within the code, and jumps behind that
 -- pc

@@ -4,10 +4,10 @@ use Rattle.std.specs.Prelude.{replicate, codes, slice_get, bit_and, Some, IsTrue
 use Rattle.std.specs.Option.{option_map_or}
 use Rattle.std.specs.Str.{bytes_eq}
 use Rattle.jv_base.specs.declared.method.MethodId.{MethodId}
-use Rattle.cf_class.specs.declared.thin.ThinMethod.{ThinMethod}
-use Rattle.cf_class.specs.Walk.{CpInfo, Utf8Info, ClassInfo, WideInfo, OtherInfo, NoInfo, AttributeInfo, MemberInfo}
-use Rattle.cf_class.specs.Walk.{ClassFileInfo, CodeInfo, class_at, code_at}
-use Rattle.cf_class.specs.ThinCode.{ThinCode}
+use Rattle.cf_thin.specs.declared.thin.ThinMethod.{ThinMethod}
+use Rattle.cf_thin.specs.Walk.{CpInfo, Utf8Info, ClassInfo, WideInfo, OtherInfo, NoInfo, AttributeInfo, MemberInfo}
+use Rattle.cf_thin.specs.Walk.{ClassFileInfo, CodeInfo, class_at, code_at}
+use Rattle.cf_thin.specs.ThinCode.{ThinCode}
 
 -- whether an entry is the text with these bytes (4.4.7)
 abbrev pub is_text : List ℕ → CpInfo → Bool

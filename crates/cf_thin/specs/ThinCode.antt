@@ -2,14 +2,14 @@
 -- the frame that 4.10 wants at each instruction.
 use Rattle.std.specs.Prelude.{◌≡◌, ◌-◌, ◌<◌, ◌≤◌, ◌⊎◌, ℕ, Bool, true, false, List, [], ◌∷◌, ◌++◌, length, replicate}
 use Rattle.std.specs.Prelude.{slice_get, slice_set, Option, Some, None}
-use Rattle.cf_class.specs.declared.instr.ThinInstr.{ThinInstr}
-use Rattle.cf_class.specs.declared.instr.ThinInstr.TheVariants.{AconstNull, Iconst, Iload, Istore, Ixor, Ifeq, Ifne}
-use Rattle.cf_class.specs.declared.instr.ThinInstr.TheVariants.{IfIcmpeq, IfIcmpne, Goto, Ireturn, Return, Athrow}
-use Rattle.cf_class.specs.declared.shape.OperandType.{OperandType}
-use Rattle.cf_class.specs.declared.shape.OperandType.TheVariants.{Int, Reference}
-use Rattle.cf_class.specs.declared.shape.Shape.{Shape}
-use Rattle.cf_class.specs.declared.shape.Limits.{Limits}
-use Rattle.cf_class.specs.Instr.{instr_at}
+use Rattle.cf_thin.specs.declared.instr.ThinInstr.{ThinInstr}
+use Rattle.cf_thin.specs.declared.instr.ThinInstr.TheVariants.{AconstNull, Iconst, Iload, Istore, Ixor, Ifeq, Ifne}
+use Rattle.cf_thin.specs.declared.instr.ThinInstr.TheVariants.{IfIcmpeq, IfIcmpne, Goto, Ireturn, Return, Athrow}
+use Rattle.cf_thin.specs.declared.shape.OperandType.{OperandType}
+use Rattle.cf_thin.specs.declared.shape.OperandType.TheVariants.{Int, Reference}
+use Rattle.cf_thin.specs.declared.shape.Shape.{Shape}
+use Rattle.cf_thin.specs.declared.shape.Limits.{Limits}
+use Rattle.cf_thin.specs.Instr.{instr_at}
 
 -- an instruction begins at this pc: the first at 0, and each other where the instruction before it ends (4.9.1)
 pub data IsStart (code : List ℕ) : ℕ → Type 0 where

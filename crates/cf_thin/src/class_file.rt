@@ -1,7 +1,7 @@
 // A class file as a whole, and the content of a Code attribute (JVM Specification SE 8, 4.1 and 4.7.3).
 ghost use Rattle.std.specs.Prelude.{◌≡◌};
-ghost use Rattle.cf_class.specs.Walk.{version_at, interfaces_at, class_at, code_at};
-ghost use Rattle.cf_class.specs.Calls.Views.{Gives, class_file_of, code_of};
+ghost use Rattle.cf_thin.specs.Walk.{version_at, interfaces_at, class_at, code_at};
+ghost use Rattle.cf_thin.specs.Calls.Views.{Gives, class_file_of, code_of};
 
 use crate::member::{Member, read_attributes, read_members};
 use crate::pool::{Constant, read_pool};

@@ -1,6 +1,6 @@
 // Descriptors of methods of ints (JVM Specification SE 8, 4.3.3).
 ghost use Rattle.std.specs.Prelude.{◌≡◌, ℕ, ◌≤◌, ◌↔◌, Bool, length, replicate, IsTrue, MatchOption};
-ghost use Rattle.cf_class.specs.Thin.{end_of, int_descriptor};
+ghost use Rattle.cf_thin.specs.Thin.{end_of, int_descriptor};
 
 /// How many ints a method takes, and whether it gives one.
 #[derive(Clone, Copy, Debug)]

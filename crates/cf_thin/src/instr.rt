@@ -1,6 +1,6 @@
 // The instructions of thin code, and how they are read from the bytes of a method.
 ghost use Rattle.std.specs.Prelude.{◌+◌, ◌≡◌, ◌≤◌, length, IfSome, ◌<◌};
-ghost use Rattle.cf_class.specs.Instr.{instr_at, first_instr, format_of, alone, jump_to, first_short, forward, branch};
+ghost use Rattle.cf_thin.specs.Instr.{instr_at, first_instr, format_of, alone, jump_to, first_short, forward, branch};
 
 use ThinInstr::{
     AconstNull, Athrow, Goto, Iconst, IfIcmpeq, IfIcmpne, Ifeq, Ifne, Iload, Ireturn, Istore, Ixor,

@@ -1,5 +1,5 @@
 // Laws of the definitions, each the contract of a function that does nothing.
-ghost use Rattle.cf_class.specs.Laws.{GoForward, WeakerOrder};
+ghost use Rattle.cf_thin.specs.Laws.{GoForward, WeakerOrder};
 
 /// An instruction of thin code ends and jumps behind its own pc, and ends within the code.
 pub fn go_forward()

@@ -1,7 +1,7 @@
 // Attributes, fields and methods of a class file (JVM Specification SE 8, 4.5 to 4.7).
 ghost use Rattle.std.specs.Prelude.{◌≡◌, map};
-ghost use Rattle.cf_class.specs.Walk.{many_at, attribute_at, attributes_at, member_at, members_at};
-ghost use Rattle.cf_class.specs.Calls.Views.{Gives, attribute_of, member_of};
+ghost use Rattle.cf_thin.specs.Walk.{many_at, attribute_at, attributes_at, member_at, members_at};
+ghost use Rattle.cf_thin.specs.Calls.Views.{Gives, attribute_of, member_of};
 
 use crate::walk::{Refusal, front, u16_at, u32_at};
 use std::alloc::Global;

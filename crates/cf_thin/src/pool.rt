@@ -1,8 +1,8 @@
 // The constant pool of a class file (JVM Specification SE 8, 4.4).
 ghost use Rattle.std.specs.Prelude.{◌≡◌, map};
-ghost use Rattle.cf_class.specs.Walk.{utf8_at, class_info_at, passed_at, tagged_at, info_at, next_info_at, indices_at, pool_at, is_wide};
-ghost use Rattle.cf_class.specs.Calls.Views.{Gives, info_of};
-ghost use Rattle.cf_class.specs.Thin.{has_text, names_class};
+ghost use Rattle.cf_thin.specs.Walk.{utf8_at, class_info_at, passed_at, tagged_at, info_at, next_info_at, indices_at, pool_at, is_wide};
+ghost use Rattle.cf_thin.specs.Calls.Views.{Gives, info_of};
+ghost use Rattle.cf_thin.specs.Thin.{has_text, names_class};
 
 use crate::walk::{Refusal, front, u16_at};
 use std::alloc::Global;

@@ -1,8 +1,8 @@
 // The shape of a frame: what is known of its locals and its operand stack, and how an instruction changes it.
 ghost use Rattle.std.specs.Prelude.{◌≡◌, ◌≢◌, ◌↔◌, List as list_of, Bool, IsTrue, IfOk, MatchOption, length};
-ghost use Rattle.cf_class.specs.Calls.Passes.{both_known, AreJoined};
-ghost use Rattle.cf_class.specs.declared.shape.Shape.{Shape};
-ghost use Rattle.cf_class.specs.ThinCode.{Steps, takes, leaves, MayStand, LocalsStep, StackSteps};
+ghost use Rattle.cf_thin.specs.Calls.Passes.{both_known, AreJoined};
+ghost use Rattle.cf_thin.specs.declared.shape.Shape.{Shape};
+ghost use Rattle.cf_thin.specs.ThinCode.{Steps, takes, leaves, MayStand, LocalsStep, StackSteps};
 
 use crate::instr::ThinInstr;
 use ThinInstr::{

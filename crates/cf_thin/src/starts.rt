@@ -1,8 +1,8 @@
 // Whether the bytes of a method are instructions, each as a whole, and each jump goes to one of them.
 ghost use Rattle.std.specs.Prelude.{◌≡◌, ◌<◌, ◌≤◌, ◌↔◌, length, slice_get, true, IsTrue, IfOk, IfSome, IfNone, MatchOption};
-ghost use Rattle.cf_class.specs.Instr.{instr_at};
-ghost use Rattle.cf_class.specs.ThinCode.{HasInstrs, target_of};
-ghost use Rattle.cf_class.specs.Calls.Passes.{AreStarts, AreWhole, IsAimed, AreAimed, GoesOn};
+ghost use Rattle.cf_thin.specs.Instr.{instr_at};
+ghost use Rattle.cf_thin.specs.ThinCode.{HasInstrs, target_of};
+ghost use Rattle.cf_thin.specs.Calls.Passes.{AreStarts, AreWhole, IsAimed, AreAimed, GoesOn};
 
 use crate::instr::{ThinInstr, thin_instr_at};
 use ThinInstr::{Goto, IfIcmpeq, IfIcmpne, Ifeq, Ifne};

@@ -1,9 +1,9 @@
 // The thin method of a class file.
 ghost use Rattle.std.specs.Prelude.{◌≡◌, List, [], ◌∷◌, map, filter, codes, IfOk, IfSome, IfNone, IsTrue, ◌↔◌, MatchOption};
-ghost use Rattle.cf_class.specs.Walk.{AttributeInfo, MemberInfo};
-ghost use Rattle.cf_class.specs.Calls.Views.{info_of, attribute_of, member_of, class_file_of, code_of};
-ghost use Rattle.cf_class.specs.Calls.Finds.{Finds};
-ghost use Rattle.cf_class.specs.Thin.{is_entry, is_initializer, is_code, IsThinClass, IsPlainStatic, IsPlainCode, IsCodeOfMethod, IsCodeOfEntry, Thin};
+ghost use Rattle.cf_thin.specs.Walk.{AttributeInfo, MemberInfo};
+ghost use Rattle.cf_thin.specs.Calls.Views.{info_of, attribute_of, member_of, class_file_of, code_of};
+ghost use Rattle.cf_thin.specs.Calls.Finds.{Finds};
+ghost use Rattle.cf_thin.specs.Thin.{is_entry, is_initializer, is_code, IsThinClass, IsPlainStatic, IsPlainCode, IsCodeOfMethod, IsCodeOfEntry, Thin};
 
 use crate::class_file::{ClassFile, Code, read_class_file, read_code};
 use crate::descriptor::int_signature;

@@ -1,8 +1,8 @@
 // Whether the code of a method is thin: its shapes are found in one pass, since each jump goes forward.
 ghost use Rattle.std.specs.Prelude.{◌≡◌, ◌+◌, ◌-◌, ◌∷◌, ◌<◌, ◌≤◌, ◌↔◌, IsFalse, [], length, true, false, Some, None, Option, List as list_of, replicate, IsTrue, IfOk, IfSome, MatchOption};
-ghost use Rattle.cf_class.specs.declared.shape.Shape.{Shape};
-ghost use Rattle.cf_class.specs.ThinCode.{HasInstrs, Shapes, MeetsRules, IsThin, ThinCode, entry_locals, falls_through, target_of};
-ghost use Rattle.cf_class.specs.Calls.Passes.{IsSound, Covers, fall_of, FlowsTo, CannotFlow, JoinsFound, Differs, LeadsToAny, RefusesAny, LeadsTo, Refuses, HaveLocals, shape_at};
+ghost use Rattle.cf_thin.specs.declared.shape.Shape.{Shape};
+ghost use Rattle.cf_thin.specs.ThinCode.{HasInstrs, Shapes, MeetsRules, IsThin, ThinCode, entry_locals, falls_through, target_of};
+ghost use Rattle.cf_thin.specs.Calls.Passes.{IsSound, Covers, fall_of, FlowsTo, CannotFlow, JoinsFound, Differs, LeadsToAny, RefusesAny, LeadsTo, Refuses, HaveLocals, shape_at};
 
 use crate::instr::{ThinInstr, thin_instr_at};
 use crate::shape::{Limits, Shape};

@@ -1,9 +1,9 @@
 // Numbers and runs of bytes at the front of what is left of a class file.
 ghost use Rattle.std.specs.Prelude.{◌≡◌};
 ghost use Rattle.std.specs.Int.{w16, w32};
-ghost use Rattle.cf_class.specs.Walk.{number_at, bytes_at};
-ghost use Rattle.cf_class.specs.Calls.Views.{Gives};
-ghost use Rattle.cf_class.specs.declared.walk.Refusal.TheVariants.{NoMemory};
+ghost use Rattle.cf_thin.specs.Walk.{number_at, bytes_at};
+ghost use Rattle.cf_thin.specs.Calls.Views.{Gives};
+ghost use Rattle.cf_thin.specs.declared.walk.Refusal.TheVariants.{NoMemory};
 
 use std::alloc::{AllocError, AllocFailed};
 

@@ -1,8 +1,8 @@
 -- A frame goes on under one of two guards, of which one is true where the frame's guard is.
 use Rattle.std.proofs.Common.{◌≡◌, ℕ, Bool, true, false, not, ◌&&◌, refl, sym, ap, ◌∙◌, subst}
 use Rattle.std.specs.Prelude.{if◌then◌else◌}
-use Rattle.cf_class.specs.declared.shape.Shape.{Shape}
-use Rattle.cf_class.specs.ThinCode.{Shapes}
+use Rattle.cf_thin.specs.declared.shape.Shape.{Shape}
+use Rattle.cf_thin.specs.ThinCode.{Shapes}
 use Rattle.jb_run.specs.declared.formula.Formula.{Formula}
 use Rattle.jb_run.specs.declared.frame.Frame.{Frame}
 use Rattle.jb_run.specs.declared.gates.Bit.{Bit}

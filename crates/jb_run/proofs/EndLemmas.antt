@@ -4,9 +4,9 @@ use Rattle.std.proofs.Common.{subst}
 use Rattle.std.proofs.lemmas.Option.{some_pair_parts}
 use Rattle.jv_base.specs.declared.method.Kind.{Kind}
 use Rattle.jv_base.specs.declared.method.Kind.TheVariants.{Null, Zero, Bounds, NegSize, Store, Cast, StrIndex, Assert}
-use Rattle.cf_class.specs.declared.shape.Limits.{Limits}
-use Rattle.cf_class.specs.ThinCode.{Shapes, MeetsRules}
-use Rattle.cf_class.specs.Laws.{GoForward}
+use Rattle.cf_thin.specs.declared.shape.Limits.{Limits}
+use Rattle.cf_thin.specs.ThinCode.{Shapes, MeetsRules}
+use Rattle.cf_thin.specs.Laws.{GoForward}
 use Rattle.jb_run.specs.declared.formula.Formula.{Formula}
 use Rattle.jb_run.specs.declared.gates.Bit.{Bit}
 use Rattle.jb_run.specs.declared.int_bits.IntBits.{IntBits}

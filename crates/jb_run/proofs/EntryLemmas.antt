@@ -12,10 +12,10 @@ use Rattle.std.proofs.lemmas.Nat.{bit_set_by_shift}
 use Rattle.std.proofs.lemmas.Nat.Bits.{shr_and_one}
 use Rattle.std.proofs.lemmas.List.{get_or_past, get_or-replicate, length-replicate}
 use Rattle.jv_base.specs.declared.value.Value.TheVariants.{Int}
-use Rattle.cf_class.specs.declared.shape.Limits.{Limits}
-use Rattle.cf_class.specs.declared.shape.OperandType as kind
-use Rattle.cf_class.specs.ThinCode.{Shapes, IsLed, MeetsRules}
-use Rattle.cf_class.specs.Laws.{GoForward, WeakerOrder}
+use Rattle.cf_thin.specs.declared.shape.Limits.{Limits}
+use Rattle.cf_thin.specs.declared.shape.OperandType as kind
+use Rattle.cf_thin.specs.ThinCode.{Shapes, IsLed, MeetsRules}
+use Rattle.cf_thin.specs.Laws.{GoForward, WeakerOrder}
 use Rattle.jb_run.specs.declared.formula.Formula.{Formula}
 use Rattle.jb_run.specs.declared.gates.Bit.{Bit}
 use Rattle.jb_run.specs.declared.gates.Bit.TheVariants.{Known}

@@ -1,9 +1,9 @@
 -- How what the encoder did from one frame, after the formula grew, is what it did from another.
 use Rattle.std.proofs.Common.{◌≡◌, ◌<◌, ◌≤◌, length, ℕ, Bool, List, [], ◌∷◌, Option, sym, ap, ◌∙◌, subst}
-use Rattle.cf_class.specs.declared.shape.OperandType as kind
-use Rattle.cf_class.specs.declared.shape.OperandType.TheVariants as kinds
-use Rattle.cf_class.specs.declared.shape.Shape.{Shape}
-use Rattle.cf_class.specs.ThinCode.{Shapes}
+use Rattle.cf_thin.specs.declared.shape.OperandType as kind
+use Rattle.cf_thin.specs.declared.shape.OperandType.TheVariants as kinds
+use Rattle.cf_thin.specs.declared.shape.Shape.{Shape}
+use Rattle.cf_thin.specs.ThinCode.{Shapes}
 use Rattle.jb_run.specs.declared.frame.Operand.{Operand}
 use Rattle.jb_run.specs.declared.frame.Operand.TheVariants as operand
 use Rattle.jb_run.specs.declared.frame.Frame.{Frame}

@@ -3,10 +3,10 @@ use Rattle.std.proofs.Common.{◌≡◌, ◌≤◌, ℕ, ℤ, Bool, List, [], �
 use Rattle.std.specs.Prelude.{pos, if◌then◌else◌}
 use Rattle.std.specs.Ordering.{int_eq}
 use Rattle.jv_base.specs.declared.value.Value.{Value}
-use Rattle.cf_class.specs.declared.shape.OperandType as kind
-use Rattle.cf_class.specs.declared.shape.OperandType.TheVariants as kinds
-use Rattle.cf_class.specs.declared.shape.Shape.{Shape}
-use Rattle.cf_class.specs.ThinCode.{Shapes, IsLed}
+use Rattle.cf_thin.specs.declared.shape.OperandType as kind
+use Rattle.cf_thin.specs.declared.shape.OperandType.TheVariants as kinds
+use Rattle.cf_thin.specs.declared.shape.Shape.{Shape}
+use Rattle.cf_thin.specs.ThinCode.{Shapes, IsLed}
 use Rattle.jb_run.specs.declared.formula.Formula.{Formula}
 use Rattle.jb_run.specs.declared.gates.Bit.{Bit}
 use Rattle.jb_run.specs.declared.int_bits.IntBits.{IntBits}

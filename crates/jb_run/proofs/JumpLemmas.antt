@@ -1,13 +1,13 @@
 -- What the encoder does for jumps is what the machine does, for each state that the frame shows.
 use Rattle.std.proofs.Common.{◌≡◌, ◌+◌, ◌<◌, ◌≤◌, ℕ, List, [], ◌∷◌, ◌++◌, refl, sym, ap, ◌∙◌, subst, arith}
 use Rattle.std.proofs.lemmas.List.{append-nil}
-use Rattle.cf_class.specs.declared.instr.ThinInstr.{ThinInstr}
-use Rattle.cf_class.specs.declared.instr.ThinInstr.TheVariants as instrs
-use Rattle.cf_class.specs.declared.shape.OperandType as kind
-use Rattle.cf_class.specs.declared.shape.OperandType.TheVariants as kinds
-use Rattle.cf_class.specs.declared.shape.Shape.{Shape}
-use Rattle.cf_class.specs.declared.shape.Limits.{Limits}
-use Rattle.cf_class.specs.ThinCode.{takes, leaves, Shapes, IsLed, IsKnownLess}
+use Rattle.cf_thin.specs.declared.instr.ThinInstr.{ThinInstr}
+use Rattle.cf_thin.specs.declared.instr.ThinInstr.TheVariants as instrs
+use Rattle.cf_thin.specs.declared.shape.OperandType as kind
+use Rattle.cf_thin.specs.declared.shape.OperandType.TheVariants as kinds
+use Rattle.cf_thin.specs.declared.shape.Shape.{Shape}
+use Rattle.cf_thin.specs.declared.shape.Limits.{Limits}
+use Rattle.cf_thin.specs.ThinCode.{takes, leaves, Shapes, IsLed, IsKnownLess}
 use Rattle.jb_run.specs.declared.frame.Frame.{Frame}
 use Rattle.jb_run.specs.declared.encoder.Encoder.{Encoder}
 use Rattle.jb_run.specs.Machine as machine

@@ -7,10 +7,10 @@ use Rattle.std.proofs.lemmas.List.{append-nil}
 use Rattle.std.proofs.lemmas.Option.{same_Some}
 use Rattle.jv_base.specs.declared.value.Value.{Value}
 use Rattle.jv_base.specs.declared.value.Value.TheVariants.{Int}
-use Rattle.cf_class.specs.declared.instr.ThinInstr.TheVariants as instrs
-use Rattle.cf_class.specs.declared.shape.OperandType as kind
-use Rattle.cf_class.specs.declared.shape.OperandType.TheVariants as kinds
-use Rattle.cf_class.specs.declared.shape.Shape.{Shape}
+use Rattle.cf_thin.specs.declared.instr.ThinInstr.TheVariants as instrs
+use Rattle.cf_thin.specs.declared.shape.OperandType as kind
+use Rattle.cf_thin.specs.declared.shape.OperandType.TheVariants as kinds
+use Rattle.cf_thin.specs.declared.shape.Shape.{Shape}
 use Rattle.jb_run.specs.declared.int_bits.IntBits.{IntBits}
 use Rattle.jb_run.specs.declared.frame.Operand.TheVariants as operand
 use Rattle.jb_run.specs.declared.frame.Frame.{Frame}

@@ -1,8 +1,8 @@
 -- The loop over the code: what is encoded so far, for whichever limits and shapes the code has.
 use Rattle.std.proofs.Common.{◌≡◌, ◌+◌, ℕ, List, length, subst, sym}
-use Rattle.cf_class.specs.declared.shape.Limits.{Limits}
-use Rattle.cf_class.specs.Laws.{GoForward, WeakerOrder}
-use Rattle.cf_class.specs.ThinCode.{IsThin}
+use Rattle.cf_thin.specs.declared.shape.Limits.{Limits}
+use Rattle.cf_thin.specs.Laws.{GoForward, WeakerOrder}
+use Rattle.cf_thin.specs.ThinCode.{IsThin}
 use Rattle.jb_run.specs.declared.formula.Formula.{Formula}
 use Rattle.jb_run.specs.declared.int_bits.IntBits.{IntBits}
 use Rattle.jb_run.specs.declared.frame.Frame.{Frame}

@@ -1,7 +1,7 @@
 -- Frames that meet: their guards, their locals and their stacks are merged.
 use Rattle.std.proofs.Common.{◌≡◌, ◌≤◌, ℕ, Bool, true, false, List, arith}
-use Rattle.cf_class.specs.declared.shape.OperandType as kind
-use Rattle.cf_class.specs.declared.shape.Shape.{Shape}
+use Rattle.cf_thin.specs.declared.shape.OperandType as kind
+use Rattle.cf_thin.specs.declared.shape.Shape.{Shape}
 use Rattle.jb_run.specs.declared.formula.Formula.{Formula}
 use Rattle.jb_run.specs.declared.frame.Frame.{Frame}
 use Rattle.jb_run.specs.declared.gates.Bit.{Bit}

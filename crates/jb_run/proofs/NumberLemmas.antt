@@ -7,13 +7,13 @@ use Rattle.std.specs.Int.{w32, int_bit_xor}
 use Rattle.std.proofs.lemmas.List.{append-nil}
 use Rattle.jv_base.specs.declared.value.Value.{Value}
 use Rattle.jv_base.specs.declared.value.Value.TheVariants.{Int, Ref}
-use Rattle.cf_class.specs.declared.instr.ThinInstr.{ThinInstr}
-use Rattle.cf_class.specs.declared.instr.ThinInstr.TheVariants as instrs
-use Rattle.cf_class.specs.declared.shape.OperandType as kind
-use Rattle.cf_class.specs.declared.shape.OperandType.TheVariants as kinds
-use Rattle.cf_class.specs.declared.shape.Shape.{Shape}
-use Rattle.cf_class.specs.declared.shape.Limits.{Limits}
-use Rattle.cf_class.specs.ThinCode.{falls_through, takes, leaves, Shapes}
+use Rattle.cf_thin.specs.declared.instr.ThinInstr.{ThinInstr}
+use Rattle.cf_thin.specs.declared.instr.ThinInstr.TheVariants as instrs
+use Rattle.cf_thin.specs.declared.shape.OperandType as kind
+use Rattle.cf_thin.specs.declared.shape.OperandType.TheVariants as kinds
+use Rattle.cf_thin.specs.declared.shape.Shape.{Shape}
+use Rattle.cf_thin.specs.declared.shape.Limits.{Limits}
+use Rattle.cf_thin.specs.ThinCode.{falls_through, takes, leaves, Shapes}
 use Rattle.jb_run.specs.declared.formula.Formula.{Formula}
 use Rattle.jb_run.specs.declared.int_bits.IntBits.{IntBits}
 use Rattle.jb_run.specs.declared.frame.Operand.{Operand}

@@ -4,12 +4,12 @@ use Rattle.std.proofs.Common.{refl, sym, ap, ◌∙◌, subst, arith, length-set
 use Rattle.std.proofs.lemmas.Bool.{cases_eq}
 use Rattle.std.proofs.lemmas.Option.{some_pair_parts}
 use Rattle.jv_base.specs.declared.method.Kind.{Kind}
-use Rattle.cf_class.specs.declared.instr.ThinInstr.{ThinInstr}
-use Rattle.cf_class.specs.declared.shape.Limits.{Limits}
-use Rattle.cf_class.specs.declared.shape.Shape.{Shape}
-use Rattle.cf_class.specs.Instr.{instr_at}
-use Rattle.cf_class.specs.Laws.{GoesForward}
-use Rattle.cf_class.specs.ThinCode.{target_of, falls_through, Steps, Shapes, IsLed, MeetsRules}
+use Rattle.cf_thin.specs.declared.instr.ThinInstr.{ThinInstr}
+use Rattle.cf_thin.specs.declared.shape.Limits.{Limits}
+use Rattle.cf_thin.specs.declared.shape.Shape.{Shape}
+use Rattle.cf_thin.specs.Instr.{instr_at}
+use Rattle.cf_thin.specs.Laws.{GoesForward}
+use Rattle.cf_thin.specs.ThinCode.{target_of, falls_through, Steps, Shapes, IsLed, MeetsRules}
 use Rattle.jb_run.specs.declared.formula.Formula.{Formula}
 use Rattle.jb_run.specs.declared.gates.Bit.{Bit}
 use Rattle.jb_run.specs.declared.int_bits.IntBits.{IntBits}

@@ -1,9 +1,9 @@
 -- Shapes that meet the rules stand at instructions of the code.
 use Rattle.std.proofs.Common.{◌≡◌, ◌<◌, ℕ, List, length, Some, arith}
-use Rattle.cf_class.specs.declared.shape.Shape.{Shape}
-use Rattle.cf_class.specs.declared.shape.Limits.{Limits}
-use Rattle.cf_class.specs.Laws.{GoForward}
-use Rattle.cf_class.specs.ThinCode.{Shapes, MeetsRules}
+use Rattle.cf_thin.specs.declared.shape.Shape.{Shape}
+use Rattle.cf_thin.specs.declared.shape.Limits.{Limits}
+use Rattle.cf_thin.specs.Laws.{GoForward}
+use Rattle.cf_thin.specs.ThinCode.{Shapes, MeetsRules}
 
 -- a pc that has a shape is within the code
 pub shape_within : GoForward → (code : List ℕ) (limits : Limits) (shapes : Shapes) → MeetsRules code limits shapes →

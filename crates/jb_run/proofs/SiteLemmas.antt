@@ -5,9 +5,9 @@ use Rattle.std.specs.List.{flat_map}
 use Rattle.std.proofs.lemmas.List.{append-nil}
 use Rattle.jv_base.specs.declared.method.MethodId.{MethodId}
 use Rattle.jv_base.specs.declared.method.Goal.{Goal}
-use Rattle.cf_class.specs.declared.instr.ThinInstr.{ThinInstr}
-use Rattle.cf_class.specs.Instr.{instr_at}
-use Rattle.cf_class.specs.ThinCode.{IsStart}
+use Rattle.cf_thin.specs.declared.instr.ThinInstr.{ThinInstr}
+use Rattle.cf_thin.specs.Instr.{instr_at}
+use Rattle.cf_thin.specs.ThinCode.{IsStart}
 use Rattle.jb_run.specs.Sites.{Walk, goals_of, goals_of_found, goals_at, IsSites}
 use Rattle.std.proofs.lemmas.List.Concat.{flat_map-append}
 

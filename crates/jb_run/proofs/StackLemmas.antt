@@ -6,8 +6,8 @@ use Rattle.std.proofs.Math.Seq.{take-append_seam}
 use Rattle.std.proofs.lemmas.Option.{none-some}
 use Rattle.jv_base.specs.declared.value.Value.{Value}
 use Rattle.jv_base.specs.declared.value.Value.TheVariants.{Int, Long, Ref}
-use Rattle.cf_class.specs.declared.shape.OperandType as kind
-use Rattle.cf_class.specs.declared.shape.OperandType.TheVariants as kinds
+use Rattle.cf_thin.specs.declared.shape.OperandType as kind
+use Rattle.cf_thin.specs.declared.shape.OperandType.TheVariants as kinds
 use Rattle.jb_run.specs.declared.int_bits.IntBits.{IntBits}
 use Rattle.jb_run.specs.declared.frame.Operand.{Operand}
 use Rattle.jb_run.specs.declared.frame.Operand.TheVariants as operand

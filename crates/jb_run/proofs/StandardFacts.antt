@@ -2,9 +2,9 @@
 use Rattle.std.proofs.Common.{◌≡◌, ℕ, pos, negsuc, List, [], ◌∷◌, Some, None, refl}
 use Rattle.jv_base.specs.declared.method.Kind.TheVariants.{Null}
 use Rattle.jv_base.specs.declared.value.Value.TheVariants.{Int, Ref}
-use Rattle.cf_class.specs.declared.instr.ThinInstr.TheVariants.{Iload, Istore, Ixor, Ifeq, Ifne, IfIcmpeq, IfIcmpne}
-use Rattle.cf_class.specs.declared.instr.ThinInstr.TheVariants.{Ireturn, Athrow}
-use Rattle.cf_class.specs.Instr.{instr_at, first_instr, format_of, opcodes}
+use Rattle.cf_thin.specs.declared.instr.ThinInstr.TheVariants.{Iload, Istore, Ixor, Ifeq, Ifne, IfIcmpeq, IfIcmpne}
+use Rattle.cf_thin.specs.declared.instr.ThinInstr.TheVariants.{Ireturn, Athrow}
+use Rattle.cf_thin.specs.Instr.{instr_at, first_instr, format_of, opcodes}
 use Rattle.jb_run.specs.declared.machine.State.{State}
 use Rattle.jb_run.specs.declared.machine.Outcome.TheVariants.{Next, Raised, Stuck}
 use Rattle.jb_run.specs.Machine.{step_of, step, after, start}

@@ -5,12 +5,12 @@ use Rattle.std.specs.Int.{w32, int_bit_xor}
 use Rattle.std.specs.Ordering.{int_eq}
 use Rattle.jv_base.specs.declared.value.Value.{Value}
 use Rattle.jv_base.specs.declared.value.Value.TheVariants.{Int, Ref}
-use Rattle.cf_class.specs.declared.instr.ThinInstr.{ThinInstr}
-use Rattle.cf_class.specs.declared.instr.ThinInstr.TheVariants.{AconstNull, Iconst, Iload, Istore, Ixor, Ifeq, Ifne}
-use Rattle.cf_class.specs.declared.instr.ThinInstr.TheVariants.{IfIcmpeq, IfIcmpne, Goto, Ireturn, Return, Athrow}
-use Rattle.cf_class.specs.declared.shape.OperandType.TheVariants as kinds
-use Rattle.cf_class.specs.declared.shape.Limits.{Limits}
-use Rattle.cf_class.specs.ThinCode.{Shapes, takes}
+use Rattle.cf_thin.specs.declared.instr.ThinInstr.{ThinInstr}
+use Rattle.cf_thin.specs.declared.instr.ThinInstr.TheVariants.{AconstNull, Iconst, Iload, Istore, Ixor, Ifeq, Ifne}
+use Rattle.cf_thin.specs.declared.instr.ThinInstr.TheVariants.{IfIcmpeq, IfIcmpne, Goto, Ireturn, Return, Athrow}
+use Rattle.cf_thin.specs.declared.shape.OperandType.TheVariants as kinds
+use Rattle.cf_thin.specs.declared.shape.Limits.{Limits}
+use Rattle.cf_thin.specs.ThinCode.{Shapes, takes}
 use Rattle.jb_run.specs.declared.frame.Frame.{Frame}
 use Rattle.jb_run.specs.declared.encoder.Encoder.{Encoder}
 use Rattle.jb_run.specs.declared.machine.State.{State}

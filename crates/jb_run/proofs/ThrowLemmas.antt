@@ -5,7 +5,7 @@ use Rattle.std.specs.Prelude.{slice_set}
 use Rattle.std.proofs.lemmas.Bool.{cases_eq}
 use Rattle.std.proofs.lemmas.List.{length-set, get_or-set_same, get_or-set_other}
 use Rattle.jv_base.specs.declared.value.Value.{Value}
-use Rattle.cf_class.specs.declared.instr.ThinInstr.TheVariants as instrs
+use Rattle.cf_thin.specs.declared.instr.ThinInstr.TheVariants as instrs
 use Rattle.jb_run.specs.declared.formula.Formula.{Formula}
 use Rattle.jb_run.specs.declared.gates.Bit.{Bit}
 use Rattle.jb_run.specs.declared.gates.Bit.TheVariants.{Known}

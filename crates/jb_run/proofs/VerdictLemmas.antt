@@ -5,7 +5,7 @@ use Rattle.std.proofs.lemmas.List.{length-replicate}
 use Rattle.jv_base.specs.declared.input.Input.{Input}
 use Rattle.jv_base.specs.declared.method.Kind.{Kind}
 use Rattle.jv_base.specs.declared.method.MethodId.{MethodId}
-use Rattle.cf_class.specs.Thin.{int_descriptor, end_of}
+use Rattle.cf_thin.specs.Thin.{int_descriptor, end_of}
 use Rattle.jb_run.specs.declared.encoding.Encoding.{Encoding}
 use Rattle.jb_run.specs.declared.report.Verdict.TheVariants.{Success, Failure}
 use Rattle.jb_run.specs.declared.solver.Answer.TheVariants.{Unsat}

@@ -3,8 +3,8 @@ use Rattle.std.specs.Prelude.{◌≡◌, ◌⊎◌, ℕ, ◌==◌, List, [], ◌
 use Rattle.std.specs.Prelude.{if◌then◌else◌}
 use Rattle.std.specs.Option.{option_map}
 use Rattle.jv_base.specs.declared.method.MethodId.{MethodId}
-use Rattle.cf_class.specs.declared.thin.ThinMethod.{ThinMethod}
-use Rattle.cf_class.specs.Thin.{Thin}
+use Rattle.cf_thin.specs.declared.thin.ThinMethod.{ThinMethod}
+use Rattle.cf_thin.specs.Thin.{Thin}
 use Rattle.io_edges.specs.declared.folder.File.{File}
 use Rattle.io_edges.specs.Folder.{file_at, longest_file}
 use Rattle.io_edges.specs.Sink.{Holds, HoldsFront}

@@ -5,10 +5,10 @@ use Rattle.std.specs.Ordering.{int_eq}
 use Rattle.jv_base.specs.declared.method.Kind.TheVariants.{Null}
 use Rattle.jv_base.specs.declared.value.Value.{Value}
 use Rattle.jv_base.specs.declared.value.Value.TheVariants.{Int, Ref}
-use Rattle.cf_class.specs.declared.instr.ThinInstr.{ThinInstr}
-use Rattle.cf_class.specs.declared.instr.ThinInstr.TheVariants.{AconstNull, Iconst, Iload, Istore, Ixor, Ifeq, Ifne}
-use Rattle.cf_class.specs.declared.instr.ThinInstr.TheVariants.{IfIcmpeq, IfIcmpne, Goto, Ireturn, Return, Athrow}
-use Rattle.cf_class.specs.Instr.{instr_at}
+use Rattle.cf_thin.specs.declared.instr.ThinInstr.{ThinInstr}
+use Rattle.cf_thin.specs.declared.instr.ThinInstr.TheVariants.{AconstNull, Iconst, Iload, Istore, Ixor, Ifeq, Ifne}
+use Rattle.cf_thin.specs.declared.instr.ThinInstr.TheVariants.{IfIcmpeq, IfIcmpne, Goto, Ireturn, Return, Athrow}
+use Rattle.cf_thin.specs.Instr.{instr_at}
 use Rattle.jb_run.specs.Locals.{local_at, with_local}
 use Rattle.jb_run.specs.Stack.{top, below}
 use Rattle.jb_run.specs.declared.machine.State.{State}

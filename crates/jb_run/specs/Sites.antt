@@ -5,9 +5,9 @@ use Rattle.jv_base.specs.declared.method.MethodId.{MethodId}
 use Rattle.jv_base.specs.declared.method.Goal.{Goal}
 use Rattle.jv_base.specs.declared.method.Kind.{Kind}
 use Rattle.jv_base.specs.declared.method.Kind.TheVariants.{Null, Assert}
-use Rattle.cf_class.specs.declared.instr.ThinInstr.{ThinInstr}
-use Rattle.cf_class.specs.declared.instr.ThinInstr.TheVariants.{Athrow}
-use Rattle.cf_class.specs.Instr.{instr_at}
+use Rattle.cf_thin.specs.declared.instr.ThinInstr.{ThinInstr}
+use Rattle.cf_thin.specs.declared.instr.ThinInstr.TheVariants.{Athrow}
+use Rattle.cf_thin.specs.Instr.{instr_at}
 
 -- the pcs of the instructions from one pc to another, one after the other (JVM Specification SE 8, 4.9.1)
 abbrev pub Walk : List ℕ → ℕ → List ℕ → ℕ → Type 0

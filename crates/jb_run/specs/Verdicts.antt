@@ -2,7 +2,7 @@
 use Rattle.std.specs.Prelude.{◌≡◌, ℕ, Bool, List, All}
 use Rattle.jv_base.specs.declared.method.Goal.{Goal}
 use Rattle.jv_base.specs.declared.method.MethodId.{MethodId}
-use Rattle.cf_class.specs.Thin.{int_descriptor}
+use Rattle.cf_thin.specs.Thin.{int_descriptor}
 use Rattle.jb_run.specs.declared.encoding.Encoding.{Encoding}
 use Rattle.jb_run.specs.declared.report.Line.{Line}
 use Rattle.jb_run.specs.declared.report.Verdict.{Verdict}

@@ -4,7 +4,7 @@ use Rattle.std.specs.Int.{w32}
 use Rattle.jv_base.specs.declared.input.Input.{Input}
 use Rattle.jv_base.specs.declared.method.Kind.{Kind}
 use Rattle.jv_base.specs.declared.method.MethodId.{MethodId}
-use Rattle.cf_class.specs.Thin.{int_descriptor}
+use Rattle.cf_thin.specs.Thin.{int_descriptor}
 use Rattle.jb_run.specs.declared.machine.State.{State}
 use Rattle.jb_run.specs.declared.machine.Outcome.TheVariants.{Raised, Stuck}
 use Rattle.jb_run.specs.Machine.{step, after, start}

@@ -1,8 +1,8 @@
 // The instructions of thin code over frames of bits: each takes the frame that waits at its pc, and puts frames where the
 // run may go on.
 ghost use Rattle.std.specs.Prelude.{◌≡◌, [], ◌∷◌, IfOk, OnOk};
-ghost use Rattle.cf_class.specs.declared.instr.ThinInstr.TheVariants as instrs;
-ghost use Rattle.cf_class.specs.declared.shape.OperandType.TheVariants as kinds;
+ghost use Rattle.cf_thin.specs.declared.instr.ThinInstr.TheVariants as instrs;
+ghost use Rattle.cf_thin.specs.declared.shape.OperandType.TheVariants as kinds;
 ghost use Rattle.jb_run.specs.Encoder as specs;
 ghost use Rattle.jb_run.specs.Machine as machine;
 
@@ -10,7 +10,7 @@ use crate::formula::Formula;
 use crate::frame::{Frame, Operand, merge};
 use crate::gates::{Bit, and};
 use crate::int_bits::{are_equal, is_zero, known, xor_ints};
-use cf_class::ThinInstr;
+use cf_thin::ThinInstr;
 use jv_base::Mem;
 use std::alloc::Global;
 

@@ -1,6 +1,6 @@
 // All runs of a thin method as one formula: the frames that wait, in the order of the pcs.
 ghost use Rattle.std.specs.Prelude.{◌≡◌, ◌≤◌, ℕ, Bool, true, false, length, replicate, map, Some, None, [], IfOk, OnOk, IfSome, IfNone};
-ghost use Rattle.cf_class.specs.ThinCode.{ThinCode};
+ghost use Rattle.cf_thin.specs.ThinCode.{ThinCode};
 ghost use Rattle.jb_run.specs.declared.gates.Bit.TheVariants as bits;
 ghost use Rattle.jb_run.specs.Encoder as specs;
 ghost use Rattle.jb_run.specs.Represents.{goal_bit, Represents};
@@ -10,7 +10,7 @@ use crate::formula::Formula;
 use crate::frame::Frame;
 use crate::gates::Bit;
 use crate::int_bits::{IntBits, unknown};
-use cf_class::{go_forward, thin_instr_at, weaker_order};
+use cf_thin::{go_forward, thin_instr_at, weaker_order};
 use jv_base::{Kind, List, Mem};
 use std::alloc::Global;
 

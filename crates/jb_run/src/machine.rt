@@ -5,7 +5,7 @@ ghost use Rattle.jb_run.specs.Stack as operands;
 ghost use Rattle.jb_run.specs.Violates.{RunViolates};
 
 use crate::locals::{local_at, with_local};
-use cf_class::{ThinInstr, go_forward, thin_instr_at};
+use cf_thin::{ThinInstr, go_forward, thin_instr_at};
 use jv_base::{Kind, List, Mem, Value};
 use std::alloc::Global;
 

@@ -1,9 +1,9 @@
 // The sites of a thin method, in the order of the report.
 ghost use Rattle.std.specs.Prelude.{◌≡◌, [], ◌∷◌, ◌++◌, ◌≤◌, length, IfOk, OnOk};
-ghost use Rattle.cf_class.specs.ThinCode.{HasInstrs};
+ghost use Rattle.cf_thin.specs.ThinCode.{HasInstrs};
 ghost use Rattle.jb_run.specs.Sites.{IsSites, goal_at, goals_of};
 
-use cf_class::{ThinInstr, thin_instr_at};
+use cf_thin::{ThinInstr, thin_instr_at};
 use jv_base::{Goal, Kind, List, Mem, MethodId, Site};
 use std::alloc::Global;
 

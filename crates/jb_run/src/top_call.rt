@@ -1,6 +1,6 @@
 // The top call: from the words and the folder to the text in the sink.
 ghost use Rattle.std.specs.Prelude.{◌≡◌, ◌≤◌, ◌++◌, ℕ, Bool, [], ◌∷◌, codes, string_bytes, IfOk, IfSome, IsSome, MatchOption, IfNone, ◌⊎◌, None};
-ghost use Rattle.cf_class.specs.Thin.{int_descriptor};
+ghost use Rattle.cf_thin.specs.Thin.{int_descriptor};
 ghost use Rattle.io_edges.specs.Faults.{Rose};
 ghost use Rattle.io_edges.specs.Sink.{Adds};
 ghost use Rattle.jb_run.specs.Command.{texts, CommandOf};
@@ -12,7 +12,7 @@ use crate::report::{Asked, Line, Ran, Report, Status, Was, World};
 use crate::text::{NO_MEMORY, failures, output};
 use crate::verdicts::verdicts;
 use crate::words::{Command, WordsFault, read_words};
-use cf_class::read_thin;
+use cf_thin::read_thin;
 use io_edges::{Folder, Got, Put, Sink};
 use jv_base::{List, Mem, MethodId, Name};
 use std::alloc::{AllocError, Global};

@@ -1,7 +1,7 @@
 // A verdict for each site of a thin method.
 ghost use Rattle.std.specs.Prelude.{◌≡◌, ◌≤◌, ℕ, ℤ, Bool, List, length, map, IfOk};
-ghost use Rattle.cf_class.specs.Thin.{int_descriptor};
-ghost use Rattle.cf_class.specs.ThinCode.{HasInstrs, ThinCode};
+ghost use Rattle.cf_thin.specs.Thin.{int_descriptor};
+ghost use Rattle.cf_thin.specs.ThinCode.{HasInstrs, ThinCode};
 ghost use Rattle.jb_run.specs.Verdicts.{IsVerdictBy, AreVerdictsBy};
 ghost use Rattle.jb_run.specs.Justified.{AreJustified};
 ghost use Rattle.jb_run.specs.Satisfies.{bit_value};

@@ -1,11 +1,11 @@
 -- What the steps of the check of thin code give.
 use Rattle.std.specs.Prelude.{◌≡◌, ◌≢◌, ◌<◌, ◌≤◌, ◌⊎◌, if◌then◌else◌, ◌&&◌, ℕ, Bool, true, List, [], ◌∷◌, length}
 use Rattle.std.specs.Prelude.{slice_get, slice_set, Option, Some, None, option_and_then}
-use Rattle.cf_class.specs.declared.shape.Shape.{Shape}
-use Rattle.cf_class.specs.declared.shape.Limits.{Limits}
-use Rattle.cf_class.specs.declared.instr.ThinInstr.{ThinInstr}
-use Rattle.cf_class.specs.Instr.{instr_at}
-use Rattle.cf_class.specs.ThinCode.{IsStart, target_of, falls_through, Shapes, IsLed, Flows, Fits, entry_locals}
+use Rattle.cf_thin.specs.declared.shape.Shape.{Shape}
+use Rattle.cf_thin.specs.declared.shape.Limits.{Limits}
+use Rattle.cf_thin.specs.declared.instr.ThinInstr.{ThinInstr}
+use Rattle.cf_thin.specs.Instr.{instr_at}
+use Rattle.cf_thin.specs.ThinCode.{IsStart, target_of, falls_through, Shapes, IsLed, Flows, Fits, entry_locals}
 
 -- where two shapes meet, a local is known to have an int where both know it
 abbrev pub both_known : List Bool → List Bool → List Bool

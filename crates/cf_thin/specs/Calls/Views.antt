@@ -1,15 +1,15 @@
 -- What was read, without where it lies in memory.
 use Rattle.std.specs.Prelude.{◌≡◌, map, Option, Some, None, Result, Ok, Err}
-use Rattle.cf_class.specs.declared.walk.Refusal.{Refusal}
-use Rattle.cf_class.specs.declared.walk.Refusal.TheVariants.{NoMemory, Malformed}
-use Rattle.cf_class.specs.declared.pool.Constant.{Constant}
-use Rattle.cf_class.specs.declared.pool.Constant.TheVariants.{Utf8, Class, Wide, Other, Unusable}
-use Rattle.cf_class.specs.declared.member.Attribute.{Attribute}
-use Rattle.cf_class.specs.declared.member.Member.{Member}
-use Rattle.cf_class.specs.declared.class_file.ClassFile.{ClassFile}
-use Rattle.cf_class.specs.declared.class_file.Code.{Code}
-use Rattle.cf_class.specs.Walk.{CpInfo, Utf8Info, ClassInfo, WideInfo, OtherInfo, NoInfo, AttributeInfo, MemberInfo}
-use Rattle.cf_class.specs.Walk.{ClassFileInfo, CodeInfo}
+use Rattle.cf_thin.specs.declared.walk.Refusal.{Refusal}
+use Rattle.cf_thin.specs.declared.walk.Refusal.TheVariants.{NoMemory, Malformed}
+use Rattle.cf_thin.specs.declared.pool.Constant.{Constant}
+use Rattle.cf_thin.specs.declared.pool.Constant.TheVariants.{Utf8, Class, Wide, Other, Unusable}
+use Rattle.cf_thin.specs.declared.member.Attribute.{Attribute}
+use Rattle.cf_thin.specs.declared.member.Member.{Member}
+use Rattle.cf_thin.specs.declared.class_file.ClassFile.{ClassFile}
+use Rattle.cf_thin.specs.declared.class_file.Code.{Code}
+use Rattle.cf_thin.specs.Walk.{CpInfo, Utf8Info, ClassInfo, WideInfo, OtherInfo, NoInfo, AttributeInfo, MemberInfo}
+use Rattle.cf_thin.specs.Walk.{ClassFileInfo, CodeInfo}
 
 -- A failed reading is one that gives nothing, unless memory ran out.
 abbrev pub Fails : {Y : Type 0} → Refusal → Option Y → Type 0

@@ -1,11 +1,11 @@
 use Rattle.std.proofs.Common.{◌∙◌, sym, refl, arith}
 use Rattle.std.proofs.lemmas.Int.{ints}
-use Rattle.cf_class.specs.declared.instr.ThinInstr.TheVariants.{Iconst, Iload, Istore}
-use Rattle.cf_class.specs.Instr.{OfByte, OfShort, OfLocal}
-use Rattle.cf_class.proofs.InstrLemmas.{of_format, byte_none, local_some, local_none, short_operand, first_alone}
-use Rattle.cf_class.proofs.InstrLemmas.{first_branch, first_empty, first_byte, first_short_value}
-use Rattle.cf_class.proofs.OpcodeLemmas.{row_16, row_17, row_21, row_54}
-use Rattle.cf_class.proofs.instr.first_instruction.Goals as goal
+use Rattle.cf_thin.specs.declared.instr.ThinInstr.TheVariants.{Iconst, Iload, Istore}
+use Rattle.cf_thin.specs.Instr.{OfByte, OfShort, OfLocal}
+use Rattle.cf_thin.proofs.InstrLemmas.{of_format, byte_none, local_some, local_none, short_operand, first_alone}
+use Rattle.cf_thin.proofs.InstrLemmas.{first_branch, first_empty, first_byte, first_short_value}
+use Rattle.cf_thin.proofs.OpcodeLemmas.{row_16, row_17, row_21, row_54}
+use Rattle.cf_thin.proofs.instr.first_instruction.Goals as goal
 
 pub returns-in_err-opcode-clause-value : goal.returns-in_err-opcode-clause-value
 returns-in_err-opcode-clause-value c =

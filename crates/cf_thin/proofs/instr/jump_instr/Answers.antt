@@ -1,7 +1,7 @@
 use Rattle.std.proofs.Common.{sym, arith, refl}
-use Rattle.cf_class.specs.Instr.{format_of, opcodes}
-use Rattle.cf_class.proofs.OpcodeLemmas.{not_jump}
-use Rattle.cf_class.proofs.instr.jump_instr.Goals as goal
+use Rattle.cf_thin.specs.Instr.{format_of, opcodes}
+use Rattle.cf_thin.proofs.OpcodeLemmas.{not_jump}
+use Rattle.cf_thin.proofs.instr.jump_instr.Goals as goal
 
 pub returns-in-153 : goal.returns-in-153
 unfolding format_of opcodes

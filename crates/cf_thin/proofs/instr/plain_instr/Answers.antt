@@ -1,9 +1,9 @@
 use Rattle.std.proofs.lemmas.Int.{ints}
-use Rattle.cf_class.specs.declared.instr.ThinInstr.TheVariants.{Iconst}
+use Rattle.cf_thin.specs.declared.instr.ThinInstr.TheVariants.{Iconst}
 use Rattle.std.proofs.Common.{◌≡◌, Some, ℤ, pos, ◌-ℤ◌, to_z, of_z, w32, ap, ◌∙◌, sym, arith, refl}
-use Rattle.cf_class.specs.Instr.{format_of, opcodes}
-use Rattle.cf_class.proofs.OpcodeLemmas.{not_alone, iconst_row, iload_row, istore_row}
-use Rattle.cf_class.proofs.instr.plain_instr.Goals as goal
+use Rattle.cf_thin.specs.Instr.{format_of, opcodes}
+use Rattle.cf_thin.proofs.OpcodeLemmas.{not_alone, iconst_row, iload_row, istore_row}
+use Rattle.cf_thin.proofs.instr.plain_instr.Goals as goal
 
 pub returns-in-1 : goal.returns-in-1
 unfolding format_of opcodes

@@ -1,7 +1,7 @@
 use Rattle.std.proofs.Common.{◌≡◌, ◌+◌, ◌≤◌, sym, arith, drop, length}
 use Rattle.std.proofs.lemmas.Grind.{common_steps}
-use Rattle.cf_class.proofs.InstrLemmas.{instr_found, instr_missing, instr_past, instr_ends}
-use Rattle.cf_class.proofs.instr.thin_instr_at.Goals as goal
+use Rattle.cf_thin.proofs.InstrLemmas.{instr_found, instr_missing, instr_past, instr_ends}
+use Rattle.cf_thin.proofs.instr.thin_instr_at.Goals as goal
 
 pub returns-in_err-get : goal.returns-in_err-get
 returns-in_err-get c =

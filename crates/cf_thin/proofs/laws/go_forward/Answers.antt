@@ -1,7 +1,7 @@
 -- Instructions end and jump forward.
-use Rattle.cf_class.proofs.InstrLemmas.{instr_ends}
-use Rattle.cf_class.proofs.TargetLemmas.{target_forward}
-use Rattle.cf_class.proofs.laws.go_forward.Goals as goal
+use Rattle.cf_thin.proofs.InstrLemmas.{instr_ends}
+use Rattle.cf_thin.proofs.TargetLemmas.{target_forward}
+use Rattle.cf_thin.proofs.laws.go_forward.Goals as goal
 
 pub returns : goal.returns
 returns c = λ code pc instr next is.

@@ -1,10 +1,10 @@
 use Rattle.std.proofs.Common.{◌≡◌, ◌++◌, ◌∷◌, [], map}
 use Rattle.std.proofs.lemmas.Result.{err_from_is_err_and}
 use Rattle.std.proofs.lemmas.List.{map_push}
-use Rattle.cf_class.specs.Walk.{many_at, attribute_at}
-use Rattle.cf_class.specs.Calls.Views.{attribute_of}
-use Rattle.cf_class.proofs.LoopLemmas.{goes_on, ends, is_done}
-use Rattle.cf_class.proofs.member.read_attribute_list.Goals as goal
+use Rattle.cf_thin.specs.Walk.{many_at, attribute_at}
+use Rattle.cf_thin.specs.Calls.Views.{attribute_of}
+use Rattle.cf_thin.proofs.LoopLemmas.{goes_on, ends, is_done}
+use Rattle.cf_thin.proofs.member.read_attribute_list.Goals as goal
 
 pub returns-in_err-attribute : goal.returns-in_err-attribute
 returns-in_err-attribute c =

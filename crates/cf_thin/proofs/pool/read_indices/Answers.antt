@@ -1,11 +1,11 @@
 use Rattle.std.proofs.Common.{◌≡◌, ◌++◌, ◌∷◌, [], map, refl, ap, ◌∙◌}
 use Rattle.std.proofs.lemmas.Result.{err_from_is_err_and}
 use Rattle.std.proofs.lemmas.List.{map_push}
-use Rattle.cf_class.specs.declared.pool.Constant.TheVariants.{Unusable}
-use Rattle.cf_class.specs.Walk.{NoInfo, indices_at}
-use Rattle.cf_class.specs.Calls.Views.{info_of}
-use Rattle.cf_class.proofs.LoopLemmas.{infos_go_on, infos_end, infos_done, infos_cut}
-use Rattle.cf_class.proofs.pool.read_indices.Goals as goal
+use Rattle.cf_thin.specs.declared.pool.Constant.TheVariants.{Unusable}
+use Rattle.cf_thin.specs.Walk.{NoInfo, indices_at}
+use Rattle.cf_thin.specs.Calls.Views.{info_of}
+use Rattle.cf_thin.proofs.LoopLemmas.{infos_go_on, infos_end, infos_done, infos_cut}
+use Rattle.cf_thin.proofs.pool.read_indices.Goals as goal
 
 pub loop-init : goal.loop-init
 unfolding indices_at

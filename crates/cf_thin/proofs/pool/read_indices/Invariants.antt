@@ -1,8 +1,8 @@
 use Rattle.std.proofs.Common.{◌≡◌, map, ◌-◌}
-use Rattle.cf_class.specs.Walk.{infos_at, indices_at}
-use Rattle.cf_class.specs.Calls.Views.{info_of}
-use Rattle.cf_class.proofs.LoopLemmas.{with_front}
-use Rattle.cf_class.proofs.pool.read_indices.Given as goal
+use Rattle.cf_thin.specs.Walk.{infos_at, indices_at}
+use Rattle.cf_thin.specs.Calls.Views.{info_of}
+use Rattle.cf_thin.proofs.LoopLemmas.{with_front}
+use Rattle.cf_thin.proofs.pool.read_indices.Given as goal
 
 abbrev pub invariant-loop : goal.invariant-loop
 invariant-loop l =

@@ -1,8 +1,8 @@
 use Rattle.std.proofs.Common.{◌≡◌, ◌∙◌, arith, get_or, false, ◌&&◌}
-use Rattle.cf_class.specs.Calls.Passes.{both_known}
-use Rattle.cf_class.proofs.ShapeLemmas.{both_more}
-use Rattle.cf_class.proofs.shape.common_locals.Goals as goal
-use Rattle.cf_class.proofs.shape.common_locals.Goals.{then-known, else-known}
+use Rattle.cf_thin.specs.Calls.Passes.{both_known}
+use Rattle.cf_thin.proofs.ShapeLemmas.{both_more}
+use Rattle.cf_thin.proofs.shape.common_locals.Goals as goal
+use Rattle.cf_thin.proofs.shape.common_locals.Goals.{then-known, else-known}
 
 pub loop-i-preserved : goal.loop-i-preserved
 loop-i-preserved c =

@@ -1,8 +1,8 @@
 use Rattle.std.proofs.Common.{◌≡◌, ◌++◌, ap, ◌∙◌, Some}
 use Rattle.std.proofs.lemmas.Slice.Eq.{strip_suffix_is}
-use Rattle.cf_class.specs.ThinCode.{takes}
-use Rattle.cf_class.proofs.ShapeLemmas.{operand_decides}
-use Rattle.cf_class.proofs.shape.stack_after.Goals as goal
+use Rattle.cf_thin.specs.ThinCode.{takes}
+use Rattle.cf_thin.proofs.ShapeLemmas.{operand_decides}
+use Rattle.cf_thin.proofs.shape.stack_after.Goals as goal
 
 pub returns : goal.returns
 returns c =

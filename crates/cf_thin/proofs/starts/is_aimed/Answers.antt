@@ -1,5 +1,5 @@
-use Rattle.cf_class.proofs.SweepLemmas.{aimed_iff}
-use Rattle.cf_class.proofs.starts.is_aimed.Goals as goal
+use Rattle.cf_thin.proofs.SweepLemmas.{aimed_iff}
+use Rattle.cf_thin.proofs.starts.is_aimed.Goals as goal
 
 pub returns-in-Some-target_of_instr : goal.returns-in-Some-target_of_instr
 returns-in-Some-target_of_instr c =

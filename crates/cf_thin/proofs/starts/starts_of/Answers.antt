@@ -1,7 +1,7 @@
 use Rattle.std.proofs.Common.{◌≡◌, ℕ, subst, sym, arith, length, List, Bool, eqb-true}
 use Rattle.std.proofs.lemmas.Bool.{eqb-false}
-use Rattle.cf_class.proofs.SweepLemmas.{Swept, swept_none, swept_step, swept_all}
-use Rattle.cf_class.proofs.starts.starts_of.Goals as goal
+use Rattle.cf_thin.proofs.SweepLemmas.{Swept, swept_none, swept_step, swept_all}
+use Rattle.cf_thin.proofs.starts.starts_of.Goals as goal
 
 pub loop-pc-init : goal.loop-pc-init
 loop-pc-init c = let P : List Bool → Type 0 = λ s. Swept c.args.code.now s 0 0 in

@@ -1,8 +1,8 @@
 use Rattle.std.proofs.Common.{rules}
-use Rattle.cf_class.specs.Calls.Views.{member_of, class_file_of, code_of}
-use Rattle.cf_class.specs.Thin.{IsCodeOfMethod, IsCodeOfEntry}
-use Rattle.cf_class.proofs.UniquenessLemmas.{Finds-same, of_method}
-use Rattle.cf_class.proofs.thin.code_of_entry.Goals as goal
+use Rattle.cf_thin.specs.Calls.Views.{member_of, class_file_of, code_of}
+use Rattle.cf_thin.specs.Thin.{IsCodeOfMethod, IsCodeOfEntry}
+use Rattle.cf_thin.proofs.UniquenessLemmas.{Finds-same, of_method}
+use Rattle.cf_thin.proofs.thin.code_of_entry.Goals as goal
 
 pub returns : goal.returns
 returns c =

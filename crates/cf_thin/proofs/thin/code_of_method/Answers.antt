@@ -1,6 +1,6 @@
 use Rattle.std.proofs.Common.{rules}
-use Rattle.cf_class.specs.Calls.Views.{attribute_of}
-use Rattle.cf_class.proofs.thin.code_of_method.Goals as goal
+use Rattle.cf_thin.specs.Calls.Views.{attribute_of}
+use Rattle.cf_thin.proofs.thin.code_of_method.Goals as goal
 
 pub returns : goal.returns
 returns c = record {

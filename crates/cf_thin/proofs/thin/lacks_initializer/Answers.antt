@@ -1,8 +1,8 @@
 use Rattle.std.proofs.Common.{◌≡◌, map, true}
-use Rattle.cf_class.specs.Calls.Views.{info_of, member_of}
-use Rattle.cf_class.specs.Thin.{is_initializer}
+use Rattle.cf_thin.specs.Calls.Views.{info_of, member_of}
+use Rattle.cf_thin.specs.Thin.{is_initializer}
 use Rattle.jv_list.proofs.OnlyLemmas.{is_one}
-use Rattle.cf_class.proofs.thin.lacks_initializer.Goals as goal
+use Rattle.cf_thin.proofs.thin.lacks_initializer.Goals as goal
 
 pub returns-then-has_text : goal.returns-then-has_text
 returns-then-has_text c =

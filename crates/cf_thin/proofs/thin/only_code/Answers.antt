@@ -1,10 +1,10 @@
 use Rattle.std.proofs.Common.{◌≡◌, [], map, is_some, get_or, true}
 use Rattle.std.proofs.lemmas.List.{get_or_default}
-use Rattle.cf_class.specs.declared.member.Attribute.{Attribute}
-use Rattle.cf_class.specs.Calls.Views.{info_of, attribute_of}
-use Rattle.cf_class.specs.Thin.{is_code}
+use Rattle.cf_thin.specs.declared.member.Attribute.{Attribute}
+use Rattle.cf_thin.specs.Calls.Views.{info_of, attribute_of}
+use Rattle.cf_thin.specs.Thin.{is_code}
 use Rattle.jv_list.proofs.OnlyLemmas.{Found-two}
-use Rattle.cf_class.proofs.thin.only_code.Goals as goal
+use Rattle.cf_thin.proofs.thin.only_code.Goals as goal
 
 pub returns-then-is_some : goal.returns-then-is_some
 returns-then-is_some c =

@@ -1,8 +1,8 @@
 use Rattle.std.proofs.Common.{◌≡◌, map, is_some, true}
-use Rattle.cf_class.specs.Calls.Views.{info_of, member_of}
-use Rattle.cf_class.specs.Thin.{is_entry}
+use Rattle.cf_thin.specs.Calls.Views.{info_of, member_of}
+use Rattle.cf_thin.specs.Thin.{is_entry}
 use Rattle.jv_list.proofs.OnlyLemmas.{Found-two}
-use Rattle.cf_class.proofs.thin.only_method.Goals as goal
+use Rattle.cf_thin.proofs.thin.only_method.Goals as goal
 
 pub returns-then-is_some : goal.returns-then-is_some
 returns-then-is_some c =

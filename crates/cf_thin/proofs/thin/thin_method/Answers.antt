@@ -1,9 +1,9 @@
 use Rattle.std.proofs.Common.{◌≡◌, sym, ◌∙◌}
 use Rattle.std.proofs.lemmas.Result.{err_from_is_err_and}
-use Rattle.cf_class.specs.Calls.Views.{class_file_of, code_of}
-use Rattle.cf_class.specs.Thin.{int_descriptor}
-use Rattle.cf_class.proofs.UniquenessLemmas.{Finds-no_code, no_signature, not_thin}
-use Rattle.cf_class.proofs.thin.thin_method.Goals as goal
+use Rattle.cf_thin.specs.Calls.Views.{class_file_of, code_of}
+use Rattle.cf_thin.specs.Thin.{int_descriptor}
+use Rattle.cf_thin.proofs.UniquenessLemmas.{Finds-no_code, no_signature, not_thin}
+use Rattle.cf_thin.proofs.thin.thin_method.Goals as goal
 
 pub returns-in_err-code : goal.returns-in_err-code
 returns-in_err-code c =

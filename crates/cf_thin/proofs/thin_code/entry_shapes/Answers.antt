@@ -1,7 +1,7 @@
 use Rattle.std.proofs.Common.{arith}
-use Rattle.cf_class.specs.declared.shape.Shape.{Shape}
-use Rattle.cf_class.proofs.EntryLemmas.{push_none, entry_is}
-use Rattle.cf_class.proofs.thin_code.entry_shapes.Goals as goal
+use Rattle.cf_thin.specs.declared.shape.Shape.{Shape}
+use Rattle.cf_thin.proofs.EntryLemmas.{push_none, entry_is}
+use Rattle.cf_thin.proofs.thin_code.entry_shapes.Goals as goal
 
 pub loop-preserved : goal.loop-preserved
 loop-preserved c = push_none c.push.new.self.items c.loop.shapes.items c.push-in-loop.new.self.items c.loop.counter

@@ -1,8 +1,8 @@
 use Rattle.std.proofs.Common.{◌≡◌, ◌∙◌, length, true, refl, sym, subst, ℕ, arith}
-use Rattle.cf_class.specs.Calls.Passes.{IsSound}
-use Rattle.cf_class.proofs.EntryLemmas.{sound_entry, covers_entry, sound_all}
+use Rattle.cf_thin.specs.Calls.Passes.{IsSound}
+use Rattle.cf_thin.proofs.EntryLemmas.{sound_entry, covers_entry, sound_all}
 use Rattle.jv_list.proofs.TestLemmas.{true_iff}
-use Rattle.cf_class.proofs.thin_code.has_shapes.Goals as goal
+use Rattle.cf_thin.proofs.thin_code.has_shapes.Goals as goal
 
 pub loop-pc-init : goal.loop-pc-init
 loop-pc-init c =

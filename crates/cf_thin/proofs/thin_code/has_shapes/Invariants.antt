@@ -1,6 +1,6 @@
-use Rattle.cf_class.specs.ThinCode.{Shapes, MeetsRules}
-use Rattle.cf_class.specs.Calls.Passes.{IsSound, Covers}
-use Rattle.cf_class.proofs.thin_code.has_shapes.Given as goal
+use Rattle.cf_thin.specs.ThinCode.{Shapes, MeetsRules}
+use Rattle.cf_thin.specs.Calls.Passes.{IsSound, Covers}
+use Rattle.cf_thin.proofs.thin_code.has_shapes.Given as goal
 
 abbrev pub invariant-loop-pc : goal.invariant-loop-pc
 invariant-loop-pc l = record {

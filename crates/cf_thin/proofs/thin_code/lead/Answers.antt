@@ -1,8 +1,8 @@
 use Rattle.std.proofs.Common.{length, arith}
 use Rattle.std.proofs.lemmas.Option.{MatchOption-at_none, MatchOption-at_some}
-use Rattle.cf_class.specs.Calls.Passes.{Differs, JoinsFound}
-use Rattle.cf_class.proofs.LeadLemmas.{shape_read, have_known, lead_refuses, lead_leads, lead_have}
-use Rattle.cf_class.proofs.thin_code.lead.Goals as goal
+use Rattle.cf_thin.specs.Calls.Passes.{Differs, JoinsFound}
+use Rattle.cf_thin.proofs.LeadLemmas.{shape_read, have_known, lead_refuses, lead_leads, lead_have}
+use Rattle.cf_thin.proofs.thin_code.lead.Goals as goal
 
 pub joined-requires : goal.joined-requires
 joined-requires c =

@@ -1,14 +1,14 @@
 use Rattle.std.proofs.Common.{◌+◌, sym, refl, IsTrue}
 use Rattle.std.proofs.lemmas.Option.{MatchOption-at_none, MatchOption-at_some}
 use Rattle.std.proofs.lemmas.Result.{IfOk-weaker}
-use Rattle.cf_class.specs.declared.shape.Shape.{Shape}
-use Rattle.cf_class.specs.ThinCode.{Shapes, MeetsRules, Steps, target_of}
-use Rattle.cf_class.specs.Calls.Passes.{Covers, IsSound, FlowsTo, CannotFlow, fall_of}
-use Rattle.cf_class.proofs.LeadLemmas.{shape_found}
-use Rattle.cf_class.proofs.VisitLemmas.{visit_locals, visit_sound, visit_steps, visit_instr, visit_covers}
-use Rattle.cf_class.proofs.VisitLemmas.{visit_refuses}
+use Rattle.cf_thin.specs.declared.shape.Shape.{Shape}
+use Rattle.cf_thin.specs.ThinCode.{Shapes, MeetsRules, Steps, target_of}
+use Rattle.cf_thin.specs.Calls.Passes.{Covers, IsSound, FlowsTo, CannotFlow, fall_of}
+use Rattle.cf_thin.proofs.LeadLemmas.{shape_found}
+use Rattle.cf_thin.proofs.VisitLemmas.{visit_locals, visit_sound, visit_steps, visit_instr, visit_covers}
+use Rattle.cf_thin.proofs.VisitLemmas.{visit_refuses}
 use Rattle.jv_list.proofs.TestLemmas.{if_ok_both}
-use Rattle.cf_class.proofs.thin_code.visit.Goals as goal
+use Rattle.cf_thin.proofs.thin_code.visit.Goals as goal
 
 pub returns-in_default-thin_instr_at-clause-complete : goal.returns-in_default-thin_instr_at-clause-complete
 returns-in_default-thin_instr_at-clause-complete c all rules covers =

@@ -1,8 +1,8 @@
 use Rattle.std.proofs.Common.{◌≡◌, ℕ, List, map, Option, sym, subst, ◌∙◌}
 use Rattle.std.specs.Prelude.{IfSome}
-use Rattle.cf_class.specs.declared.thin.ThinMethod.{ThinMethod}
-use Rattle.cf_class.specs.Thin.{Thin, int_descriptor}
-use Rattle.cf_class.specs.ThinCode.{ThinCode}
+use Rattle.cf_thin.specs.declared.thin.ThinMethod.{ThinMethod}
+use Rattle.cf_thin.specs.Thin.{Thin, int_descriptor}
+use Rattle.cf_thin.specs.ThinCode.{ThinCode}
 use Rattle.jb_run.specs.Justified.{AreJustified}
 use Rattle.jb_run.specs.Sites.{IsSites}
 use Rattle.jb_run.specs.Violates.{RunsGoOn}

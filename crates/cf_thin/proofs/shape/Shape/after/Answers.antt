@@ -1,8 +1,8 @@
 use Rattle.std.proofs.Common.{List, subst}
 use Rattle.std.proofs.lemmas.Option.{MatchOption-at_none}
-use Rattle.cf_class.specs.declared.shape.OperandType.{OperandType}
-use Rattle.cf_class.specs.ThinCode.{StackSteps}
-use Rattle.cf_class.proofs.shape.Shape.after.Goals as goal
+use Rattle.cf_thin.specs.declared.shape.OperandType.{OperandType}
+use Rattle.cf_thin.specs.ThinCode.{StackSteps}
+use Rattle.cf_thin.proofs.shape.Shape.after.Goals as goal
 
 pub returns-in_default-2 : goal.returns-in_default-2
 returns-in_default-2 c new s =

@@ -1,6 +1,6 @@
 use Rattle.std.proofs.Common.{◌∙◌, sym}
-use Rattle.cf_class.proofs.ShapeLemmas.{same_stacks, other_stacks}
-use Rattle.cf_class.proofs.shape.Shape.meet.Goals as goal
+use Rattle.cf_thin.proofs.ShapeLemmas.{same_stacks, other_stacks}
+use Rattle.cf_thin.proofs.shape.Shape.meet.Goals as goal
 
 pub returns-then-ne : goal.returns-then-ne
 returns-then-ne c same = other_stacks c.as_slice.result.now c.as_slice-2.result.now c.if-ne.ensures (c.as_slice.ensures

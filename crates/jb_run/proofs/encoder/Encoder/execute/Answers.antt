@@ -3,7 +3,7 @@ use Rattle.std.specs.Prelude.{FitsSigned}
 use Rattle.std.specs.Int.{w32}
 use Rattle.std.proofs.lemmas.Int.{to_z-of_z}
 use Rattle.std.proofs.lemmas.Result.{on_ok_weaker}
-use Rattle.cf_class.specs.declared.instr.ThinInstr.TheVariants as instrs
+use Rattle.cf_thin.specs.declared.instr.ThinInstr.TheVariants as instrs
 use Rattle.jb_run.proofs.NumberLemmas.{found_goes}
 use Rattle.jb_run.proofs.JumpLemmas.{ifeq_goes, ifne_goes, if_equal_goes, if_not_equal_goes, goto_goes}
 use Rattle.jb_run.proofs.encoder.Encoder.execute.Goals as goal
