@@ -1,0 +1,4 @@
+pub mod ChangeLemmas
+pub mod FieldLemmas
+pub mod ListLemmas
+mod StandardFacts
