@@ -2,6 +2,10 @@
 #![tactic(auto)]
 
 #[cfg(test)]
+mod heaps;
+#[cfg(test)]
+mod states;
+#[cfg(test)]
 mod tables;
 #[cfg(test)]
 mod text_rows;

@@ -4,12 +4,12 @@ use st_text::Text;
 use std::fmt::Write;
 use std::process::Abort;
 
-/// The rows of a table: its lines, but for blank ones.
+/// The rows of a table: its lines, but for blank ones and those of remarks.
 pub(crate) fn rows<'a, R: Abort + AllocGlobal>(rt: &R, table: &'a str) -> Vec<&'a str> {
     let mut rows = Vec::new(rt.alloc());
     for line in table.lines() {
         let row = line.trim();
-        if !row.is_empty() {
+        if !row.is_empty() && !row.starts_with("//") {
             rows.push(row).expect(rt, "memory");
         }
     }
