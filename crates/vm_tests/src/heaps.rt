@@ -3,7 +3,7 @@ use crate::tables::{cell, number_of, place_of, printed, rows, text_of};
 use jv_base::{FieldId, List, Name, TryCopy, Value};
 use st_text::Text;
 use std::process::Abort;
-use vm_world::{Fields, Heap, Object, Slot, TextKind, field_laws, heap_laws, is_same_field};
+use vm_world::{Fields, Heap, Object, Slot, TextKind, field_laws, heap_laws, is_same_field, one_start};
 
 fn name<R: Abort + AllocGlobal>(rt: &R, text: &str) -> Name {
     Name::from_text(rt.alloc(), text).expect(rt, "memory")
@@ -170,6 +170,7 @@ fn a_store_changes_one_place(rt: HostRuntime) {
     assert!(rt; shown_text(&rt, copy.text(4)).as_str() == "0078");
     heap_laws();
     field_laws();
+    one_start();
 }
 
 // Whether each part of a field counts: the class, the name and the descriptor.

@@ -2,11 +2,15 @@
 use Rattle.std.specs.Prelude.{◌≡◌, ◌≢◌, ◌+◌, ◌<◌, ◌≤◌, ◌++◌, ◌∷◌, [], ℕ, List, Some, IsSome, length, map, ◌↔◌}
 use Rattle.std.specs.Option.{option_map}
 use Rattle.jv_base.specs.declared.method.FieldId.{FieldId}
+use Rattle.jv_base.specs.declared.method.MethodId.{MethodId}
 use Rattle.jv_base.specs.declared.value.Value.{Value}
+use Rattle.jv_base.specs.declared.input.Input.{Input}
 use Rattle.vm_world.specs.declared.fields.Slot.{Slot}
 use Rattle.vm_world.specs.declared.object.Object.{Object}
 use Rattle.vm_world.specs.Fields.{value_in, with_value}
+use Rattle.vm_world.specs.declared.state.State.{State}
 use Rattle.vm_world.specs.Heap.{object_at, changed}
+use Rattle.vm_world.specs.Start.{IsStart}
 
 -- the numbers of the objects are those from 1 to their count
 abbrev pub NumbersCount : Type 0
@@ -49,3 +53,8 @@ OthersAreRead = (fields : List Slot) (field other : FieldId) (value : Value) →
 abbrev pub SameFields : Type 0
 SameFields = (fields : List Slot) (field : FieldId) (value : Value)
     → map (λ slot. slot.field) (with_value fields field value) ≡ map (λ slot. slot.field) fields
+
+-- the run of an input begins in one state at most
+abbrev pub OneStart : Type 0
+OneStart = (entry : MethodId) (input : Input) (one other : State) → IsStart entry input one → IsStart entry input other
+    → one ≡ other

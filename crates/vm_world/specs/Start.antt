@@ -11,7 +11,9 @@ use Rattle.jv_base.specs.declared.input.Tree.{Tree}
 use Rattle.jv_base.specs.declared.input.Tree.TheOpen.{Tree-F, Part-F}
 use Rattle.jv_base.specs.declared.input.Tree.TheFolds.{fold-Tree}
 use Rattle.jv_base.specs.declared.input.Input.{Input}
-use Rattle.jv_base.specs.Descriptor.{MethodType, IsMethodType, class_text, field_text, method_text}
+use Rattle.jv_base.specs.declared.value.Desc.{Desc}
+use Rattle.jv_base.specs.Types.{method_of}
+use Rattle.jv_base.specs.Descriptor.{IsMethodType, class_text, field_text, method_text}
 use Rattle.vm_world.specs.declared.fields.Slot.{Slot}
 use Rattle.vm_world.specs.declared.frame.Frame.{Frame}
 use Rattle.vm_world.specs.declared.object.Object.{Object}
@@ -110,6 +112,8 @@ start_of entry parameters input =
     record nothing { frames = entry_frame entry (values_of args) ∷ []; heap = objects_of args }
 
 -- the run of the input begins in the state
-abbrev pub IsStart : MethodId → Input → State → Type 0
-IsStart entry input state =
-    (m : MethodType) × IsMethodType m × (entry.desc ≡ method_text m) × (state ≡ start_of entry (map field_text m.parameters) input)
+pub record IsStart (entry : MethodId) (input : Input) (state : State) : Type 0 where
+  pub desc : Desc
+  pub types : IsMethodType (method_of desc)
+  pub text : entry.desc ≡ method_text (method_of desc)
+  pub begins : state ≡ start_of entry (map field_text (method_of desc).parameters) input

@@ -14,6 +14,6 @@ pub use classes::{ClassState, ClassStates, Stage};
 pub use fields::{Fields, Slot, Static, is_same_field};
 pub use frame::Frame;
 pub use heap::Heap;
-pub use laws::{field_laws, heap_laws};
+pub use laws::{field_laws, heap_laws, one_start};
 pub use object::{Object, TextKind};
 pub use state::{Literal, Mirror, State};
