@@ -58,11 +58,13 @@ module _ (bytes : List ℕ) (start : ℕ) (rows : List Row) where
     pub row_fits : place + 8 ≤ start + length (flat_map row_text rows)
     row_fits = each_fits one row_text start rows i place x lt is done.place_is
 
-    pub one_more : ((pool : List PoolEntry) → IsPassed pool (check_at place (is_row bytes x))) → AreDone (i + 1) (place + 8)
+    pub one_more : ((pool : List PoolEntry) → IsPassed pool (check_at place (is_row bytes x)))
+        → AreDone (i + 1) (place + 8)
     one_more passes = record {
       place_is = each_next one row_text start rows i place x lt is done.place_is;
       passed = λ pool. subst (ArePassed pool) (sym (each_more one row_text start rows i place x lt is done.place_is))
-          (passed_append pool (each_at one row_text [] start (take i rows)) (row_checks bytes place x) (done.passed pool)
+          (passed_append pool (each_at one row_text [] start (take i rows)) (row_checks bytes place x) (done.passed
+              pool)
           (passes pool, tt));
     }
 
@@ -77,10 +79,12 @@ module _ (bytes : List ℕ) (start : ℕ) (rows : List Row) where
   pub all_done : (i place : ℕ) → length rows ≤ i → AreDone i place → (pool : List PoolEntry)
       → ArePassed pool (rows_checks bytes start rows)
   all_done i place le done pool =
-      subst (λ (rs : List Row). ArePassed pool (each_at one row_text [] start rs)) (take_all i rows le) (done.passed pool)
+      subst (λ (rs : List Row). ArePassed pool (each_at one row_text [] start rs)) (take_all i rows le) (done.passed
+          pool)
 
 -- checks of elements, one element after the other
-module _ {B : Type 0} (pool : List PoolEntry) (one : B → List CheckAt) (xs : List B) (i : ℕ) (x : B) (lt : i < length xs)
+module _ {B : Type 0} (pool : List PoolEntry) (one : B → List CheckAt) (xs : List B) (i : ℕ) (x : B) (lt : i < length
+    xs)
     (is : x ≡ get_or xs i x) (passed : ArePassed pool (flat_map one (take i xs))) where
   pub more_passed : ArePassed pool (one x) → ArePassed pool (flat_map one (take (i + 1) xs))
   more_passed h =

@@ -1,4 +1,5 @@
--- Where bytes fail to be code whose instructions have what they need: at their first fault, or at an instruction before it.
+-- Where bytes fail to be code whose instructions have what they need: at their first fault, or at an instruction
+-- before it.
 use Rattle.std.proofs.Common.{◌≡◌, ℕ, ◌+◌, ◌<◌, ◌≤◌, List, ◌∷◌, length, Contains, refl, sym, subst, ap, ◌∙◌, inl}
 use Rattle.std.proofs.Common.{inr, ◌⊎◌, ◌^◌, arith, length-append}
 use Rattle.std.proofs.lemmas.Bool.{cases_lt}
@@ -67,7 +68,8 @@ module _ (size : HasItsSize) (beginning : IsOneBeginning) (no : IsNoCode) (one :
   none_lacks met offset what h =
       h.1.3 (all_member (λ (x : Placed). IsMet pool (need x.instr)) code h.1.0 met h.1.1)
 
-  pub whole_passes : (place : ℕ) → AreMet pool code → EndsAs bytes code Whole → IsPassed pool (check_at place (is_code bytes))
+  pub whole_passes : (place : ℕ) → AreMet pool code → EndsAs bytes code Whole
+      → IsPassed pool (check_at place (is_code bytes))
   whole_passes place met ends offset what fails = elim (fail_cases Whole ends offset what fails) [
     | inl h ↦ h
     | inr h ↦ none_lacks met offset what h

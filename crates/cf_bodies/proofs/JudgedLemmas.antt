@@ -67,7 +67,8 @@ module _ (pool : List PoolEntry) where
       | inr tie ↦ inr (omega (arith, here.place_is, at, tie.0, ap (λ (x : CheckAt). x.place) same), tie.1)
     ]
 
-    pub is_first : (low high : ℕ) (cs : List CheckAt) → Rise pool low high cs → IsFirstFailed pool cs fault → Contains cs d
+    pub is_first : (low high : ℕ) (cs : List CheckAt) → Rise pool low high cs → IsFirstFailed pool cs fault
+        → Contains cs d
         → IsFirst fault other
     unfolding Rise FirstBreaks
     is_first low high [] rise h member = absurd h
@@ -98,7 +99,8 @@ module _ (file : RawFile) (low high : ℕ) (rise : Rise file.pool low high (chec
 
   -- what tells of the checks of a file tells of the file
   module _ {X : Type 0} (IsGood : X → Type 0) where
-    pub tells_found : (r : Result X ClassFault) → Tells file.pool (checks file) IsGood r → IfOk r (λ x. HasGoodBodies file)
+    pub tells_found : (r : Result X ClassFault) → Tells file.pool (checks file) IsGood r
+        → IfOk r (λ x. HasGoodBodies file)
     tells_found (Ok x) h = good_bodies file h.1
     tells_found (Err e) h = tt
 

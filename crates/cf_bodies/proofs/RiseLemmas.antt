@@ -41,7 +41,8 @@ codes_append low mid high (c ∷ xs) ys h k =
     (h.0, codes_append (c.place + length (code_text c.content)) mid high xs ys h.1 k)
 
 module _ {A : Type 0} (one : List A → ℕ → A → List PlacedCode) (text : A → List ℕ)
-    (each : (earlier : List A) (place : ℕ) (x : A) → CodesRise place (place + length (text x)) (one earlier place x)) where
+    (each : (earlier : List A) (place : ℕ) (x : A)
+        → CodesRise place (place + length (text x)) (one earlier place x)) where
   each_codes : (earlier : List A) (place : ℕ) (xs : List A)
       → CodesRise place (place + length (flat_map text xs)) (each_at one text earlier place xs)
   unfolding each_at CodesRise
@@ -72,12 +73,14 @@ method_rises : (earlier : List RawMember) (place : ℕ) (m : RawMember)
 method_rises earlier place m =
     let end : ℕ = place + length (member_text m) in
     from_lower place (place + 8) end (method_codes place m) (omega arith)
-    (up_to (place + 8) (place + 8 + length (flat_map attribute_text m.attributes)) end (method_codes place m) (omega arith)
+    (up_to (place + 8) (place + 8 + length (flat_map attribute_text m.attributes)) end (method_codes place m) (omega
+        arith)
     (each_codes (λ (before : List RawAttribute). attribute_codes) attribute_text attribute_rises [] (place + 8)
     m.attributes))
 
 codes_rise : (file : RawFile)
-    → CodesRise (methods_start file) (methods_start file + length (flat_map member_text file.class.methods)) (codes file)
+    → CodesRise (methods_start file) (methods_start file + length (flat_map member_text file.class.methods)) (codes
+        file)
 codes_rise file =
     each_codes (λ (before : List RawMember). method_codes) member_text method_rises [] (methods_start file)
     file.class.methods
@@ -119,7 +122,8 @@ module _ (pool : List PoolEntry) where
   rise_append low mid high (c ∷ xs) ys h k = (h.0, h.1, rise_append h.0 mid high xs ys h.2 k)
 
   rows_rise : (bytes : List ℕ) (earlier : List Row) (place : ℕ) (rows : List Row)
-      → Rise place (place + length (flat_map row_text rows)) (each_at (λ (e : List Row). row_checks bytes) row_text earlier place rows)
+      → Rise place (place + length (flat_map row_text rows)) (each_at (λ (e : List Row). row_checks bytes) row_text
+          earlier place rows)
   unfolding Rise each_at
   rows_rise bytes earlier place [] = omega arith
   rows_rise bytes earlier place (r ∷ rows) = (
@@ -146,7 +150,8 @@ module _ (pool : List PoolEntry) where
                 let le = inside c.content.code short offset what h in
                 (omega arith, omega (arith, le));
           },
-          higher rows (rows + size) (c.place + length (code_text c.content)) (rows_checks c.content.code rows c.content.rows)
+          higher rows (rows + size) (c.place + length (code_text c.content)) (rows_checks c.content.code rows
+              c.content.rows)
               (omega (arith, code_length c.content, length-flat_map_each row_text 8 (λ r. refl) c.content.rows))
               (rows_rise c.content.code [] rows c.content.rows),
         )
@@ -162,5 +167,6 @@ module _ (pool : List PoolEntry) where
         (checks_rise end high cs h.1 short.1)
 
     pub file_rises : (file : RawFile) → AreShort file
-        → Rise (methods_start file) (methods_start file + length (flat_map member_text file.class.methods)) (checks file)
+        → Rise (methods_start file) (methods_start file + length (flat_map member_text file.class.methods)) (checks
+            file)
     file_rises file short = checks_rise _ _ (codes file) (codes_rise file) short

@@ -35,8 +35,8 @@ use Rattle.cf_code.specs.declared.object.Object.TheVariants as object
 use Rattle.cf_code.specs.declared.instr.Instr.{Instr}
 use Rattle.cf_code.specs.declared.instr.Instr.TheVariants.{Nop, Constant, Local, Array, Stack, Number, Jump, Table}
 use Rattle.cf_code.specs.declared.instr.Instr.TheVariants.{Lookup, Return, Field, Call, Object}
-use Rattle.cf_code.proofs.ListLemmas.{Decided, both, other, same, below, at_most, int_at_most, int_below, signed, all}
-use Rattle.cf_code.proofs.ListLemmas.{adjacent}
+use Rattle.jv_list.proofs.DecidedLemmas.{Decided, both, other, numbers, below, at_most, int_at_most, int_below, signed, all}
+use Rattle.jv_list.proofs.DecidedLemmas.{adjacent}
 
 -- ---- operands
 
@@ -143,12 +143,12 @@ module _ (pc : ℕ) where
   table_fits : (s : TableSwitch) → Decided (FitsTable pc s)
   table_fits s =
       both (length s.padding ≡ padding_at pc) (FitsTableBody s.default s.low s.targets)
-      (same (length s.padding) (padding_at pc)) (table_body_fits s.default s.low s.targets)
+      (numbers (length s.padding) (padding_at pc)) (table_body_fits s.default s.low s.targets)
 
   lookup_fits : (s : LookupSwitch) → Decided (FitsLookup pc s)
   lookup_fits s =
       both (length s.padding ≡ padding_at pc) (FitsLookupBody s.default s.cases)
-      (same (length s.padding) (padding_at pc)) (lookup_body_fits s.default s.cases)
+      (numbers (length s.padding) (padding_at pc)) (lookup_body_fits s.default s.cases)
 
   -- ---- all
 

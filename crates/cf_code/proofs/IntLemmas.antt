@@ -5,7 +5,7 @@ use Rattle.std.specs.Int.RustNames.{FitsSigned}
 use Rattle.std.proofs.lemmas.Nat.{from_be_bytes-to_be_bytes_4}
 use Rattle.cf_code.specs.Bytes.{four, signed_four}
 use Rattle.cf_code.proofs.ByteLemmas.{signed_four_back}
-use Rattle.cf_code.proofs.ListLemmas.{Decided, both, other, below, signed, lists}
+use Rattle.jv_list.proofs.DecidedLemmas.{Decided, both, other, below, signed, lists}
 
 -- a signed number of four bytes in front, with what is behind it
 abbrev pub Int : (ℤ → List ℕ → Type 0) → List ℕ → Type 0

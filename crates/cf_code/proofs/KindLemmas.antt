@@ -6,7 +6,7 @@ use Rattle.jv_base.specs.declared.method.Kind.{Kind}
 use Rattle.jv_base.specs.declared.method.Kind.TheVariants.{Null, Zero, Bounds, NegSize, Store, Cast, StrIndex, Assert}
 use Rattle.cf_code.specs.Kinds.{has, all_kinds, kinds_of}
 use Rattle.cf_code.specs.declared.kind_set.KindSet.{KindSet}
-use Rattle.cf_code.proofs.ListLemmas.{in_filter, from_filter}
+use Rattle.jv_list.proofs.FilterLemmas.{in_filter, from_filter}
 
 -- each kind is one of all
 listed : (kind : Kind) → Contains all_kinds kind
@@ -23,6 +23,6 @@ listed Assert = (7, omega arith, refl)
 pub has_members : (set : KindSet) (kinds : List Kind) → kinds ≡ kinds_of set
     → (kind : Kind) → Contains kinds kind ↔ (has set kind ≡ true)
 has_members set kinds is kind = (
-  λ h. from_filter (has set) all_kinds kind (subst (λ (ks : List Kind). Contains ks kind) is h),
-  λ e. subst (λ (ks : List Kind). Contains ks kind) (sym is) (in_filter (has set) all_kinds kind e (listed kind)),
+  λ h. (from_filter (has set) all_kinds kind (subst (λ (ks : List Kind). Contains ks kind) is h)).1,
+  λ e. subst (λ (ks : List Kind). Contains ks kind) (sym is) (in_filter (has set) all_kinds kind (listed kind) e),
 )

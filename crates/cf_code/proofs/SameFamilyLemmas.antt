@@ -113,7 +113,8 @@ same_equality x y e = absurd (false≢true e)
 pub same_jump : Same Jump (jump_eq.ghosts).eq
 same_jump (jump.IfZero x p) (jump.IfZero y q) e = same_two jump.IfZero same_condition same_numbers x y p q e
 same_jump (jump.IfInts x p) (jump.IfInts y q) e = same_two jump.IfInts same_condition same_numbers x y p q e
-same_jump (jump.IfReferences x p) (jump.IfReferences y q) e = same_two jump.IfReferences same_equality same_numbers x y p q e
+same_jump (jump.IfReferences x p) (jump.IfReferences y q) e = same_two jump.IfReferences same_equality same_numbers x
+    y p q e
 same_jump (jump.IfNull x p) (jump.IfNull y q) e = same_two jump.IfNull same_equality same_numbers x y p q e
 same_jump (jump.Goto x) (jump.Goto y) e = ap jump.Goto (same_numbers x y e)
 same_jump (jump.GotoW x) (jump.GotoW y) e = ap jump.GotoW (same_numbers x y e)

@@ -11,7 +11,7 @@ use Rattle.cf_code.specs.Bytes.{four, signed_four}
 use Rattle.cf_code.specs.Sizes.{fixed_size, wide_size, HasKeys, HasTable, HasLookup, HasOperands, HasSize}
 use Rattle.cf_code.specs.Switches.{padding_at}
 use Rattle.cf_code.proofs.IntLemmas.{Int, int_found, HasCount, count_found}
-use Rattle.cf_code.proofs.ListLemmas.{Decided, same, at_most}
+use Rattle.jv_list.proofs.DecidedLemmas.{Decided, numbers, at_most}
 use Rattle.cf_code.proofs.SizeLemmas.{one_operands}
 
 -- a number is found, or there is none
@@ -209,11 +209,11 @@ module _ (pc opcode : ℕ) (rest : List ℕ) where
 
   operands_found : Found (HasOperands pc opcode rest)
   operands_found =
-      elim (same opcode 170) [
+      elim (numbers opcode 170) [
         | inl is ↦ table_operands is (table_found pc rest)
-        | inr a ↦ elim (same opcode 171) [
+        | inr a ↦ elim (numbers opcode 171) [
           | inl is ↦ lookup_operands is (lookup_found pc rest)
-          | inr b ↦ elim (same opcode 196) [
+          | inr b ↦ elim (numbers opcode 196) [
             | inl is ↦ wide_operands is (some_found (wide_size rest))
             | inr c ↦ fixed_operands a b c (some_found (fixed_size opcode))
           ]

@@ -17,7 +17,7 @@ use Rattle.cf_code.specs.declared.switch.TableSwitch.{TableSwitch}
 use Rattle.cf_code.specs.declared.switch.LookupSwitch.{LookupSwitch}
 use Rattle.cf_code.proofs.FitLemmas.{instr_fits}
 use Rattle.cf_code.proofs.InstrLemmas.{plain_back, one_found}
-use Rattle.cf_code.proofs.ListLemmas.{Decided, both, below, lists, member, each}
+use Rattle.jv_list.proofs.DecidedLemmas.{Decided, both, below, lists, member, each}
 use Rattle.cf_code.proofs.OpcodeLemmas.{read}
 use Rattle.cf_code.proofs.PlaceLemmas.{Places, places_step, begins_at, ends_at, begins_all, ends_inside, ends_whole}
 use Rattle.cf_code.proofs.SizeFoundLemmas.{size_found}

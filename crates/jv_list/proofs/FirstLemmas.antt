@@ -5,7 +5,8 @@ use Rattle.jv_list.specs.Firsts.{FirstBreaks}
 use Rattle.jv_list.proofs.MemberLemmas.{none_member, member_cases}
 
 module _ {A : Type 0} (Keeps : A → Type 0) where
-  pub all_append : (xs ys : List A) → AllByRecursion Keeps xs → AllByRecursion Keeps ys → AllByRecursion Keeps (xs ++ ys)
+  pub all_append : (xs ys : List A) → AllByRecursion Keeps xs → AllByRecursion Keeps ys
+      → AllByRecursion Keeps (xs ++ ys)
   all_append [] ys h k = k
   all_append (x ∷ xs) ys h k = (h.0, all_append xs ys h.1 k)
 

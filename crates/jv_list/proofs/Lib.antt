@@ -14,3 +14,6 @@ pub mod TextLemmas
 pub mod BitLemmas
 pub mod OnlyLemmas
 pub mod DecidedLemmas
+pub mod FilterLemmas
+pub mod LastLemmas
+pub mod PositionLemmas

@@ -26,6 +26,10 @@ module _ {X : Type 0} where
   pub first_member : (x : X) (xs : List X) → Contains (x ∷ xs) x
   first_member x xs = Contains-append_left (x ∷ []) xs x (Contains-push [] x)
 
+  -- an element behind the first
+  pub later_member : (x : X) (xs : List X) (y : X) → Contains xs y → Contains (x ∷ xs) y
+  later_member x xs y h = Contains-append_right (x ∷ []) xs y h
+
   -- an element of a part
   pub in_flat_map : {A : Type 0} (f : X → List A) (xs : List X) (x : X) (a : A) → Contains xs x → Contains (f x) a
       → Contains (flat_map f xs) a

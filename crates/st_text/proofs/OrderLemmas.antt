@@ -9,7 +9,7 @@ use Rattle.std.proofs.lemmas.List.Quantifiers.{position-Some}
 use Rattle.std.proofs.lemmas.Bool.{ne_eqb}
 use Rattle.std.proofs.lemmas.List.{get_or-take, get_or_append_left}
 use Rattle.std.proofs.lemmas.Slice.Zip.{length-zip, get_or-zip}
-use Rattle.st_text.proofs.ListLemmas.{position_is, position_none}
+use Rattle.jv_list.proofs.PositionLemmas.{position_is, position_none}
 use Rattle.st_text.specs.Order.{first_difference}
 
 -- the difference of lengths, in the 32 bits of an int

@@ -9,7 +9,7 @@ use Rattle.uw_keys.specs.declared.interval.Interval.{Interval}
 use Rattle.uw_keys.specs.Intervals.{Ascend, AreIntervals, AreNested, IsTarget, Cover, end_at, target_of}
 use Rattle.uw_keys.specs.Calls.Backward.{Found, turned, goes_back}
 use Rattle.uw_keys.specs.Laws.{OneList}
-use Rattle.uw_keys.proofs.ListLemmas.{later_member}
+use Rattle.jv_list.proofs.MemberLemmas.{later_member}
 use Rattle.uw_keys.proofs.SortLemmas.{in_pairs, from_pairs}
 
 -- the end that a list gives the target of an interval in it
@@ -28,7 +28,8 @@ end_of_member (x ∷ is) order i h =
     ]
 
 -- an end in place of an equal target's
-at_target : (is : List Interval) → Ascend is → (i : Interval) → Contains is i → (t : ℕ) → i.target ≡ t → end_at is t ≡ i.end
+at_target : (is : List Interval) → Ascend is → (i : Interval) → Contains is i → (t : ℕ) → i.target ≡ t
+    → end_at is t ≡ i.end
 at_target is order i h t e = subst (λ (u : ℕ). end_at is u ≡ i.end) e (end_of_member is order i h)
 
 module _ (transfers pairs : List (ℕ × ℕ)) (sorted : IsPermutation (map turned (filter goes_back transfers)) pairs)

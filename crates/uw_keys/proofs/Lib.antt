@@ -1,4 +1,3 @@
-pub mod ListLemmas
 pub mod NestLemmas
 pub mod OrderLemmas
 pub mod RiseLemmas

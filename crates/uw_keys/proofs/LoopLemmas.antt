@@ -31,6 +31,7 @@ one_less all left found outer sorted h rest t s is found' outer' takes =
           (sorted_behind rest t s h.seen sorted') (reverse found') (reverse outer') takes;
     }
 
-pub none_left : (all : List (ℕ × ℕ)) (found outer : List Interval) → IsLeft all [] found outer → Found all (reverse found)
+pub none_left : (all : List (ℕ × ℕ)) (found outer : List Interval) → IsLeft all [] found outer
+    → Found all (reverse found)
 none_left all found outer h =
     subst (λ (ps : List (ℕ × ℕ)). Found ps (reverse found)) (sym h.whole) h.progress.found

@@ -6,12 +6,13 @@ use Rattle.jv_list.proofs.MemberLemmas.{none_member, member_cases, first_member}
 use Rattle.uw_keys.specs.declared.interval.Interval.{Interval}
 use Rattle.uw_keys.specs.Intervals.{Ascend}
 use Rattle.uw_keys.specs.Calls.Backward.{BeginsAt, BeginsBehind, Reaches, Takes, Found}
-use Rattle.uw_keys.proofs.ListLemmas.{later_member}
+use Rattle.jv_list.proofs.MemberLemmas.{later_member}
 
 -- the intervals of the pairs seen so far, and the outer ones among them, which hold the others
 pub record Progress (seen : List (ℕ × ℕ)) (is outer : List Interval) : Type 0 where
   pub found : Found seen is
-  pub held : (i : Interval) → Contains is i → (o : Interval) × Contains outer o × (o.target ≤ i.target) × (i.end ≤ o.end)
+  pub held : (i : Interval) → Contains is i
+      → (o : Interval) × Contains outer o × (o.target ≤ i.target) × (i.end ≤ o.end)
   pub among : (o : Interval) → Contains outer o → Contains is o
   pub order : Ascend outer
 
@@ -34,7 +35,8 @@ ascend_back [] ys h = h
 ascend_back (x ∷ xs) ys h = ascend_back xs ys h.1
 
 -- where the first is behind a pc, all are
-all_behind : (is : List Interval) (pc : ℕ) → Ascend is → BeginsBehind is pc → (i : Interval) → Contains is i → pc < i.target
+all_behind : (is : List Interval) (pc : ℕ) → Ascend is → BeginsBehind is pc → (i : Interval) → Contains is i
+    → pc < i.target
 all_behind [] pc order behind i h = absurd (none_member i h)
 all_behind (x ∷ is) pc order behind i h =
     elim (member_cases x is i h) [
@@ -108,7 +110,8 @@ module _ (seen : List (ℕ × ℕ)) (is outer : List Interval) (t s : ℕ) (p : 
     -- the outer intervals, apart
     apart : (o : Interval) → Contains outer o → (o.end ≤ end) ⊎ (Contains rest o × (end < o.target))
     apart o h =
-        elim (Contains-append_cases reaches.taken rest o (subst (λ (os : List Interval). Contains os o) reaches.split h)) [
+        elim (Contains-append_cases reaches.taken rest o (subst (λ (os : List Interval). Contains os o) reaches.split
+            h)) [
           | inl taken ↦ inl (reaches.inside o taken)
           | inr left ↦ inr (left, all_behind rest end rest_order reaches.behind o left)
         ]

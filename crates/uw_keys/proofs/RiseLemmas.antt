@@ -13,7 +13,7 @@ use Rattle.uw_keys.specs.declared.interval.Interval.{Interval}
 use Rattle.uw_keys.specs.Intervals.{Ascend}
 use Rattle.uw_keys.specs.Keys.{IsKeyOf, AreWithin, AreIdle, counter_after, counters_after, start_of}
 use Rattle.uw_keys.specs.Order.{phase, ranks}
-use Rattle.uw_keys.proofs.ListLemmas.{later_member}
+use Rattle.jv_list.proofs.MemberLemmas.{later_member}
 use Rattle.uw_keys.specs.Laws.{TransferRises, TransferKeeps}
 
 -- a comparison of parts
@@ -29,7 +29,8 @@ less_later x y o h e =
           ap (λ (p : Ordering). ordering_then p o) same ∙ e
     ]
 
--- the phase in an interval after a transfer that goes on, after one that goes back to its target, and after one that goes
+-- the phase in an interval after a transfer that goes on, after one that goes back to its target, and after one that
+-- goes
 -- back to a later target
 module _ (l : ℕ) (i : Interval) (a b c : ℕ) where
   phase_forward : a < b → c ≤ l → phase l i a c ≤ phase l i b (counter_after a b i c)

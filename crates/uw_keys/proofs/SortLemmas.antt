@@ -14,7 +14,7 @@ use Rattle.std.proofs.lemmas.List.{get_or_at, get_or-append-add, length-append}
 use Rattle.std.proofs.lemmas.List.Sorted.{sorted_far, ranks_by, Contains-permutation, IsPermutation-sym}
 use Rattle.jv_list.proofs.MemberLemmas.{in_map, from_map}
 use Rattle.uw_keys.specs.Calls.Backward.{pair_order, goes_back, turned}
-use Rattle.uw_keys.proofs.ListLemmas.{in_filter, from_filter}
+use Rattle.jv_list.proofs.FilterLemmas.{in_filter, from_filter}
 
 total : IsTotalOrder pair_order
 total = then_total (on_total (λ (p : ℕ × ℕ). p.0) nat_cmp_total) (on_total (λ (p : ℕ × ℕ). p.1) nat_cmp_total)

@@ -7,7 +7,7 @@ use Rattle.std.specs.Option.{option_map}
 use Rattle.std.proofs.lemmas.Bool.{cond-true, cond-false, cases_Bool}
 use Rattle.std.proofs.lemmas.List.Quantifiers.{position-Some}
 use Rattle.vm_world.specs.Lists.{change_first}
-use Rattle.vm_world.proofs.ListLemmas.{none_passes, found_at, none_found}
+use Rattle.jv_list.proofs.PositionLemmas.{none_passes, found_at, none_found}
 
 -- a test is true or false
 bool_cases : {P : Type 0} (b : Bool) → (b ≡ true → P) → (b ≡ false → P) → P

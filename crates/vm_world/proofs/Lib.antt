@@ -1,4 +1,3 @@
 pub mod ChangeLemmas
 pub mod FieldLemmas
-pub mod ListLemmas
 mod StandardFacts

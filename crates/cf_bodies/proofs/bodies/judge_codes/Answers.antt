@@ -14,7 +14,8 @@ returns-in_err-judge_code c =
     let p = err_from_is_err_and c.from_residual.result c.from_residual.ensures.1 in
     let l = c.loop-code in
     rw (p.1, p.2)
-    (stops c.args.pool.now c.args.codes.now l.code-index l.bodies c.code-item.result c.loop-code-test.true c.code-item.is
+    (stops c.args.pool.now c.args.codes.now l.code-index l.bodies c.code-item.result c.loop-code-test.true
+        c.code-item.is
     l.invariant c.in_err-judge_code.field-0.0 c.in_err-judge_code.ensures)
 
 pub loop-code-preserved : goal.loop-code-preserved

@@ -28,7 +28,8 @@ returns-in_default-Some c =
     let other = c.in_default-Some.not-PlainClass-0 in
     let is = c.is_of_kind.ensures in (
       λ t. finds pool c.args.index c.args.kind other (c.in_default-Some.entry.now, e, is.0 t),
-      λ k. is.1 (is_of pool c.args.index c.args.kind c.in_default-Some.entry.now e (found pool c.args.index c.args.kind other k)),
+      λ k. is.1 (is_of pool c.args.index c.args.kind c.in_default-Some.entry.now e (found pool c.args.index
+          c.args.kind other k)),
     )
 
 pub returns-in_default-None : goal.returns-in_default-None

@@ -5,4 +5,5 @@ use Rattle.cf_structure.specs.Views.{skipped_of}
 use Rattle.cf_bodies.proofs.size.skipped_size.Given as goal
 
 abbrev pub invariant-loop-attribute : goal.invariant-loop-attribute
-invariant-loop-attribute l = l.size ≡ length (flat_map skipped_text (map skipped_of (take l.attribute-index l.attributes)))
+invariant-loop-attribute l = l.size ≡ length (flat_map skipped_text (map skipped_of (take l.attribute-index
+    l.attributes)))

@@ -1,7 +1,7 @@
 use Rattle.std.proofs.Common.{◌==◌, ℕ, eqb-true, eq-eqb}
 use Rattle.std.proofs.lemmas.Bool.{ne_eqb, eqb-false}
 use Rattle.std.proofs.lemmas.List.Quantifiers.{position-Some}
-use Rattle.st_text.proofs.ListLemmas.{position_is, position_none, none_passes}
+use Rattle.jv_list.proofs.PositionLemmas.{position_is, position_none, none_passes}
 use Rattle.st_text.proofs.laws.place_laws.Goals as goal
 
 pub returns-clause-least : goal.returns-clause-least
@@ -20,6 +20,6 @@ returns-clause-least c =
 pub returns-clause-none : goal.returns-clause-none
 returns-clause-none c =
     λ text unit. (
-      (λ none k within. eqb-false _ unit (none_passes (λ (other : ℕ). other == unit) text 0 none k within)),
+      (λ none k within. eqb-false _ unit (none_passes (λ (other : ℕ). other == unit) text none k 0 within)),
       λ nowhere. position_none (λ (other : ℕ). other == unit) text 0 (λ j within. ne_eqb _ unit (nowhere j within)),
     )

@@ -3,7 +3,7 @@ use Rattle.std.proofs.Common.{eqb-true, eq-eqb, IsTrue, false}
 use Rattle.std.specs.Prelude.{slice_get, nat_eq}
 use Rattle.uw_keys.specs.declared.interval.Interval.{Interval}
 use Rattle.uw_keys.specs.Calls.Backward.{BeginsAt}
-use Rattle.uw_keys.proofs.ListLemmas.{last_split, last_none, reverse_last}
+use Rattle.jv_list.proofs.LastLemmas.{last_split, last_none, reverse_last}
 use Rattle.uw_keys.proofs.backward.is_last.Goals as goal
 
 begins_at_last : (found : List Interval) (i : Interval) (t : ℕ) → slice_get found (length found - 1) ≡ Some i

@@ -2,7 +2,7 @@ use Rattle.std.proofs.Common.{◌≡◌, ◌⊎◌, ℕ, ◌<◌, ◌-◌, List,
 use Rattle.std.specs.Prelude.{slice_get}
 use Rattle.uw_keys.specs.declared.interval.Interval.{Interval}
 use Rattle.uw_keys.specs.Calls.Backward.{BeginsBehind}
-use Rattle.uw_keys.proofs.ListLemmas.{last_split, last_none, reverse_last, rest_of_last}
+use Rattle.jv_list.proofs.LastLemmas.{last_split, last_none, reverse_last, rest_of_last}
 use Rattle.uw_keys.proofs.ReachLemmas.{IsReaching, reach_end, reach_more}
 use Rattle.uw_keys.proofs.backward.reach.Goals as goal
 

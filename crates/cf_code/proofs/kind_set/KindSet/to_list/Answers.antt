@@ -3,7 +3,7 @@ use Rattle.std.specs.List.{filter}
 use Rattle.std.proofs.lemmas.List.{take_all}
 use Rattle.cf_code.specs.Kinds.{has, all_kinds}
 use Rattle.cf_code.proofs.KindLemmas.{has_members}
-use Rattle.cf_code.proofs.ListLemmas.{filter_kept, filter_left}
+use Rattle.jv_list.proofs.FilterLemmas.{filter_kept, filter_left}
 use Rattle.cf_code.proofs.kind_set.KindSet.to_list.Goals.{then-contains+in_ok-push, else-contains}
 use Rattle.cf_code.proofs.kind_set.KindSet.to_list.Goals as goal
 
