@@ -20,13 +20,14 @@ use Rattle.cf_code.proofs.SameFamilyLemmas.{same_array, same_call, same_constant
 use Rattle.cf_code.proofs.SameFamilyLemmas.{same_object, same_returned, same_stack_move}
 use Rattle.cf_code.proofs.SwitchLemmas.{case_of, table_of, lookup_of}
 
--- and the same is found equal
+-- what is the same is found equal
 pub equal_same : {K : Type 0} {E : K → K → Bool} → IsEquivalence E → (x y : K) → x ≡ y → E x y ≡ true
 equal_same {K} {E} laws x y is = subst (λ (z : K). E x z ≡ true) is (laws.refl x)
 
 -- ---- switches
 
 module _ {K : Type 0} {E : K → K → Bool} (one : Same K E) where
+  -- lists of what a test tells
   same_lists : Same (List K) (pointwise E)
   same_lists [] [] e = refl
   same_lists [] (y ∷ ys) e = absurd (false≢true e)
