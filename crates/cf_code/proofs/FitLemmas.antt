@@ -35,7 +35,8 @@ use Rattle.cf_code.specs.declared.object.Object.TheVariants as object
 use Rattle.cf_code.specs.declared.instr.Instr.{Instr}
 use Rattle.cf_code.specs.declared.instr.Instr.TheVariants.{Nop, Constant, Local, Array, Stack, Number, Jump, Table}
 use Rattle.cf_code.specs.declared.instr.Instr.TheVariants.{Lookup, Return, Field, Call, Object}
-use Rattle.jv_list.proofs.DecidedLemmas.{Decided, both, other, numbers, below, at_most, int_at_most, int_below, signed, all}
+use Rattle.jv_list.proofs.DecidedLemmas.{Decided, both, other, numbers, below, at_most, int_at_most, int_below}
+use Rattle.jv_list.proofs.DecidedLemmas.{signed, all}
 use Rattle.jv_list.proofs.DecidedLemmas.{adjacent}
 
 -- ---- operands

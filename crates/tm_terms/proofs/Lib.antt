@@ -1,11 +1,15 @@
 pub mod BankLemmas
 pub mod BitRules
 pub mod FoldLemmas
+pub mod GuardRules
 pub mod KeyLemmas
 pub mod KnownRules
+pub mod LawLemmas
 pub mod MakeLemmas
 pub mod OrderRules
+pub mod RewriteRules
 pub mod SameLemmas
+pub mod SplitRules
 pub mod SumRules
 pub mod TermLemmas
 pub mod TruthRules

@@ -51,11 +51,13 @@ module _ (ops : List Op) (a b : TermId) where
   }
 
   pub add_ordered : Fits ops (Add a b) → Replaces ops (Add a b) (Add b a)
-  add_ordered fits = word-ordered Add (record { below = (fits.below.1, fits.below.0); sorts = sym fits.sorts }) fits.sorts
+  add_ordered fits = word-ordered Add (record { below = (fits.below.1, fits.below.0); sorts = sym fits.sorts })
+      fits.sorts
       (λ v. omega arith) refl
 
   pub mul_ordered : Fits ops (Mul a b) → Replaces ops (Mul a b) (Mul b a)
-  mul_ordered fits = word-ordered Mul (record { below = (fits.below.1, fits.below.0); sorts = sym fits.sorts }) fits.sorts
+  mul_ordered fits = word-ordered Mul (record { below = (fits.below.1, fits.below.0); sorts = sym fits.sorts })
+      fits.sorts
       (λ v. mul_comm (term_value ops v b.0) (term_value ops v a.0)) refl
 
   pub bit_and_ordered : Fits ops (BitAnd a b) → Replaces ops (BitAnd a b) (BitAnd b a)
@@ -73,4 +75,5 @@ module _ (ops : List Op) (a b : TermId) where
       word-ordered BitXor (record { below = (fits.below.1, fits.below.0); sorts = sym fits.sorts }) fits.sorts
       (λ v. xor_comm (term_value ops v b.0) (term_value ops v a.0)) refl
 
-pub ruleset ordered_rules = (and_ordered, or_ordered, equal_ordered, add_ordered, mul_ordered, bit_and_ordered, bit_or_ordered, bit_xor_ordered)
+pub ruleset ordered_rules = (and_ordered, or_ordered, equal_ordered, add_ordered, mul_ordered, bit_and_ordered,
+    bit_or_ordered, bit_xor_ordered)

@@ -1,4 +1,5 @@
 pub mod Equations
+pub mod Laws
 pub mod Listed
 pub mod Operations
 pub mod Quotients

@@ -1,5 +1,5 @@
 -- What may stand for an operation.
-use Rattle.std.specs.Prelude.{◌≡◌, ◌<◌, ◌+◌, ◌-◌, ◌%◌, ◌^◌, ℕ, List, length, true, false, slice_index}
+use Rattle.std.specs.Prelude.{◌≡◌, ◌<◌, ◌≤◌, ◌+◌, ◌-◌, ◌%◌, ◌^◌, ℕ, List, length, true, false, slice_index, min, max}
 use Rattle.tm_terms.specs.declared.sort.Sort.TheVariants.{Bool as Truth}
 use Rattle.tm_terms.specs.declared.op.TermId.{TermId}
 use Rattle.tm_terms.specs.declared.op.Operands.{Operands}
@@ -59,3 +59,21 @@ pub record IsKnown (ops : List Op) (op : Op) (k : ℕ) : Type 0 where
 -- two terms have opposite truth values
 pub record AreOpposite (ops : List Op) (a b : TermId) : Type 0 where
   pub value : (v : List ℕ) → term_value ops v b.0 ≡ (1 - term_value ops v a.0) % 2
+
+-- the second term is true where the first is
+pub record Implies (ops : List Op) (a b : TermId) : Type 0 where
+  pub value : (v : List ℕ) → term_value ops v a.0 ≤ term_value ops v b.0
+
+-- a term is the conjunction of two
+pub record IsBoth (ops : List Op) (k x y : TermId) : Type 0 where
+  pub first : x.0 < length ops
+  pub second : y.0 < length ops
+  pub sort : term_sort ops x.0 ≡ Truth
+  pub other : term_sort ops y.0 ≡ Truth
+  pub value : (v : List ℕ) → term_value ops v k.0 ≡ min (term_value ops v x.0) (term_value ops v y.0)
+
+-- one of two terms is true exactly where a third is
+pub record IsSplit (ops : List Op) (a b g : TermId) : Type 0 where
+  pub within : g.0 < length ops
+  pub sort : term_sort ops g.0 ≡ Truth
+  pub value : (v : List ℕ) → max (term_value ops v a.0) (term_value ops v b.0) ≡ term_value ops v g.0

@@ -5,6 +5,7 @@ ghost use Rattle.tm_terms.specs.declared.op.Op.TheVariants.{Free};
 use crate::fold::{simplified, sort_of};
 use crate::op::{Op, TermId};
 use crate::places::{copied, place_of, put_at};
+use crate::rewrite::rewritten;
 use crate::same::same_term;
 use crate::sort::Sort;
 use crate::values::{Valuation, first_values};
@@ -159,6 +160,7 @@ impl Bank {
             }
         }
     }
+
     /// A term with the value of the operation: one that stands already, one that is simpler, or a new one. That of a free
     /// term is always new, and one whose operation stands already is the one that stands. For want of memory the bank may have
     /// further terms.
@@ -167,7 +169,7 @@ impl Bank {
         ensures made { IfOk result (λ id. IsMade self.old self.new op id) }
         ensures keeps { Continues self.old self.new }
         ensures free { is_free op ≡ true → OnOk result (self.new ≡ self.old ++ op ∷ []) }
-        ensures again { (k : ℕ) → is_free op ≡ false → slice_get self.old k ≡ Some op → IfOk result (λ id. (id.0 ≡ k) × (self.new ≡ self.old)) }
+        ensures again { (k : ℕ) → is_free op ≡ false → slice_get self.old k ≡ Some op → (result ≡ Ok (record { 0 = k })) × (self.new ≡ self.old) }
     {
         if let Op::Free(sort) = op {
             return self.add_free(sort);
@@ -175,6 +177,7 @@ impl Bank {
         if let Some(place) = place_of(&self.places, op) {
             return Ok(TermId(place));
         }
+        let op = rewritten(self, op);
         if let Some(id) = same_term(self, op) {
             return Ok(id);
         }

@@ -20,7 +20,7 @@ fn is_not_of(bank: &Bank, a: TermId, b: TermId) -> bool
 }
 
 // Whether one of two truth values is Not of the other.
-fn are_opposite(bank: &Bank, a: TermId, b: TermId) -> bool
+pub(crate) fn are_opposite(bank: &Bank, a: TermId, b: TermId) -> bool
     requires first { a.0 < length bank.now }
     requires second { b.0 < length bank.now }
     requires sort { term_sort bank.now b.0 ≡ Truth }

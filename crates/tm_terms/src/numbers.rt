@@ -131,7 +131,8 @@ impl Op {
             Op::Less(_, _) => less(s, x, y),
             Op::Below(_, _) => u64::from(x < y),
             Op::Widen(to, _) => widened(s, to, x),
-            Op::WidenZero(_, _) | Op::Cut(_, _) => x,
+            Op::WidenZero(_, _) => x,
+            Op::Cut(_, _) => x,
         };
         low(self.sort_over(s, t), number)
     }

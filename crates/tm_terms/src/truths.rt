@@ -6,8 +6,10 @@ ghost use Rattle.tm_terms.specs.Rules.{IsSame};
 
 use crate::bank::Bank;
 use crate::constant::is_number;
+use crate::guards::{implied_and, implied_or};
 use crate::op::{Op, TermId};
 use crate::sort::Sort;
+use crate::splits::split_or;
 
 // Not of Not is the truth value itself.
 pub(crate) fn same_as_not(bank: &Bank, a: TermId) -> Option<TermId>
@@ -38,7 +40,7 @@ pub(crate) fn same_as_and(bank: &Bank, a: TermId, b: TermId) -> Option<TermId>
     } else if is_number(bank, a, 0) {
         Some(a)
     } else {
-        None
+        implied_and(bank, a, b)
     }
 }
 
@@ -59,7 +61,10 @@ pub(crate) fn same_as_or(bank: &Bank, a: TermId, b: TermId) -> Option<TermId>
     } else if is_number(bank, a, 1) {
         Some(a)
     } else {
-        None
+        match implied_or(bank, a, b) {
+            Some(id) => Some(id),
+            None => split_or(bank, a, b),
+        }
     }
 }
 

@@ -47,8 +47,8 @@ module _ (is : List Interval) (p q : ℕ) (cs ds : List ℕ) where
         let i-drop : drop place is ≡ get_or is place d ∷ drop (place + 1) is = drop_more is place d lt in
         let c-drop : drop place cs ≡ get_or cs place 0 ∷ drop (place + 1) cs = drop_more cs place 0 (omega arith) in
         let d-drop : drop place ds ≡ get_or ds place 0 ∷ drop (place + 1) ds = drop_more ds place 0 (omega arith) in
-        ap (λ (js : List Interval). slice_cmp nat_cmp (ranks limit js p (drop place cs)) (ranks limit js q (drop
-            place ds)))
+        ap (λ (js : List Interval). slice_cmp nat_cmp (ranks limit js p (drop place cs))
+        (ranks limit js q (drop place ds)))
         i-drop
         ∙ ap (λ (xs : List ℕ). slice_cmp nat_cmp (ranks limit (get_or is place d ∷ drop (place + 1) is) p xs)
         (ranks limit (get_or is place d ∷ drop (place + 1) is) q (drop place ds))) c-drop
@@ -59,8 +59,8 @@ module _ (is : List Interval) (p q : ℕ) (cs ds : List ℕ) where
     -- a comparison of the two phases, whatever the limits are
     abbrev pub IsPhaseOrder : Ordering → Type 0
     IsPhaseOrder order = (limit : ℕ) → get_or cs place 0 ≤ limit → get_or ds place 0 ≤ limit → order
-        ≡ nat_cmp (phase limit (get_or is place d) p (get_or cs place 0)) (phase limit (get_or is place d) q (get_or
-            ds place 0))
+        ≡ nat_cmp (phase limit (get_or is place d) p (get_or cs place 0))
+        (phase limit (get_or is place d) q (get_or ds place 0))
 
     order_here : AreEqualTo place → (order : Ordering) → IsPhaseOrder order → (limit : ℕ → ℕ) → AreWithin limit is cs
         → AreWithin limit is ds → ordering_then order (order_from limit (place + 1)) ≡ order_from limit 0

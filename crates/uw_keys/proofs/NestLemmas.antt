@@ -110,8 +110,8 @@ module _ (seen : List (ℕ × ℕ)) (is outer : List Interval) (t s : ℕ) (p : 
     -- the outer intervals, apart
     apart : (o : Interval) → Contains outer o → (o.end ≤ end) ⊎ (Contains rest o × (end < o.target))
     apart o h =
-        elim (Contains-append_cases reaches.taken rest o (subst (λ (os : List Interval). Contains os o) reaches.split
-            h)) [
+        let parted = subst (λ (os : List Interval). Contains os o) reaches.split h in
+        elim (Contains-append_cases reaches.taken rest o parted) [
           | inl taken ↦ inl (reaches.inside o taken)
           | inr left ↦ inr (left, all_behind rest end rest_order reaches.behind o left)
         ]

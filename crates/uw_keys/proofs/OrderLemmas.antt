@@ -87,6 +87,6 @@ same_key : (a b : Key) → a.pc ≡ b.pc → a.counters ≡ b.counters → a ≡
 same_key a b pc counters = λ i. record { pc = pc i; counters = counters i }
 
 pub order_exact : OrderExact
-order_exact limit is a b of-a of-b within-a within-b e =
+order_exact limit is a b of-a of-b e =
     let same = ranks_exact limit is a.pc b.pc a.counters b.counters of-a.counted of-b.counted of-a.idle of-b.idle e in
     same_key a b same.0 same.1

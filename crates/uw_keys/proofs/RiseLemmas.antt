@@ -1,4 +1,4 @@
--- A transfer after which no counter is above its limit leads to a greater key.
+-- A transfer leads to a greater key.
 use Rattle.std.proofs.Common.{◌≡◌, ℕ, suc, ◌≤◌, ◌<◌, List, [], ◌∷◌, length, Contains, replicate}
 use Rattle.std.proofs.Common.{refl, sym, ap, ◌∙◌, subst, inl, inr, nat_cmp, arith}
 use Rattle.std.proofs.lemmas.Bool.{cases_lt}
@@ -30,8 +30,7 @@ less_later x y o h e =
     ]
 
 -- the phase in an interval after a transfer that goes on, after one that goes back to its target, and after one that
--- goes
--- back to a later target
+-- goes back to a later target
 module _ (l : ℕ) (i : Interval) (a b c : ℕ) where
   phase_forward : a < b → c ≤ l → phase l i a c ≤ phase l i b (counter_after a b i c)
   phase_forward less within = grind (arith, nat_tests)
@@ -78,7 +77,7 @@ rise_back limit (i ∷ is) a b (c ∷ cs) o back n order among is-b inside aroun
     ]
 
 pub transfer_rises : TransferRises
-transfer_rises limit is key b nested of cover within within' =
+transfer_rises limit is key b nested of cover within =
     elim (cases_lt key.pc b) [
       | inl less ↦ rise_forward limit is key.pc b key.counters less of.counted within
       | inr back ↦

@@ -21,7 +21,7 @@ OrderTransitive = (limit : ℕ → ℕ) (is : List Interval) (a b c : Key) → k
 -- keys that compare as equal are the same
 abbrev pub OrderExact : Type 0
 OrderExact = (limit : ℕ → ℕ) (is : List Interval) (a b : Key) → IsKeyOf is a → IsKeyOf is b
-    → AreWithin limit is a.counters → AreWithin limit is b.counters → key_order limit is a b ≡ Equal → a ≡ b
+    → key_order limit is a b ≡ Equal → a ≡ b
 
 -- the limits do not matter, as long as no counter is above its own
 abbrev pub OrderForAllLimits : Type 0
@@ -30,11 +30,10 @@ OrderForAllLimits = (limit other : ℕ → ℕ) (is : List Interval) (a b : Key)
     → AreWithin other is a.counters → AreWithin other is b.counters
     → key_order limit is a b ≡ key_order other is a b
 
--- a transfer after which no counter is above its limit leads to a greater key
+-- a transfer leads from a key whose counters are within their limits to a greater key
 abbrev pub TransferRises : Type 0
 TransferRises = (limit : ℕ → ℕ) (is : List Interval) (key : Key) (b : ℕ) → AreNested is → IsKeyOf is key
-    → Cover is key.pc b → AreWithin limit is key.counters → AreWithin limit is (key_after is key b).counters
-    → key_order limit is key (key_after is key b) ≡ Less
+    → Cover is key.pc b → AreWithin limit is key.counters → key_order limit is key (key_after is key b) ≡ Less
 
 -- and to a key of the same intervals
 abbrev pub TransferKeeps : Type 0

@@ -1,5 +1,5 @@
 // The intervals of transfers.
-use crate::graphs::{cell, drawn, is_row, pairs};
+use crate::graphs::{cell, drawn, is_row, numbers, pairs};
 use crate::slow::slow_ends;
 use jv_list::{List, Mem};
 use std::alloc::Global;
@@ -59,28 +59,41 @@ fn written_transfers_have_their_intervals(rt: HostRuntime) -> Result<(), Fail> {
     Ok(())
 }
 
+// Pcs, transfers, and how many graphs of them are drawn.
+const DRAWN: &str = "
+    3 4 200
+    6 6 400
+    12 12 400
+    40 20 200
+    40 80 40
+";
+
+// Whether drawn transfers have the intervals of the slow definition.
+fn agrees(alloc: Global, pcs: u16, count: u16, seed: u16) -> Mem<bool> {
+    let transfers = drawn(alloc, pcs, count, u64::from(seed))?;
+    let wanted = slow_ends(alloc, transfers.as_slice(), pcs)?;
+    let found = ends_of(alloc, &Intervals::of(alloc, &transfers)?)?;
+    Ok(found.as_slice() == wanted.as_slice())
+}
+
+// The first graph of a row whose intervals are others.
+fn first_other(alloc: Global, row: &str) -> Mem<Option<u16>> {
+    if let [pcs, count, graphs] = numbers(alloc, row)?.as_slice() {
+        for seed in 0..*graphs {
+            if !agrees(alloc, *pcs, *count, seed)? {
+                return Ok(Some(seed));
+            }
+        }
+    }
+    Ok(None)
+}
+
 #[test]
 fn drawn_transfers_have_the_intervals_of_the_definition(rt: HostRuntime) -> Result<(), Fail> {
     order_laws();
     transfer_laws();
-    let alloc = rt.alloc();
-    for (pcs, count, graphs) in [
-        (3, 4, 200),
-        (6, 6, 400),
-        (12, 12, 400),
-        (40, 20, 200),
-        (40, 80, 40),
-    ] {
-        for seed in 0..graphs {
-            let transfers = drawn(alloc, pcs, count, seed)?;
-            let wanted = slow_ends(alloc, transfers.as_slice(), pcs)?;
-            let found = ends_of(alloc, &Intervals::of(alloc, &transfers)?)?;
-            assert_eq!(rt;
-                found.as_slice(),
-                wanted.as_slice(),
-                "{pcs} pcs, {count} transfers, seed {seed}"
-            );
-        }
+    for row in DRAWN.lines() {
+        assert_eq!(rt; first_other(rt.alloc(), row)?, None, "{row}");
     }
     Ok(())
 }
@@ -90,7 +103,7 @@ fn large(alloc: Global, kind: &str) -> Mem<List<(u16, u16)>> {
     let mut transfers = List::new(alloc);
     for pc in 0..=u16::MAX {
         let target = match kind {
-            "themselves" => pc,
+            "itself" => pc,
             "the one before" => pc.saturating_sub(1),
             _ => pc.min(u16::MAX - pc),
         };
@@ -99,19 +112,33 @@ fn large(alloc: Global, kind: &str) -> Mem<List<(u16, u16)>> {
     Ok(transfers)
 }
 
+// Where each pc goes back to; how many intervals there are, the first and the last.
+const LARGE: &str = "
+    itself | 65536 | 0 0 | 65535 65535
+    the one before | 65535 | 0 65535 | 65534 65535
+    the mirrored one | 32768 | 0 65535 | 32767 32768
+";
+
+// How many pairs there are, the first and the last.
+fn outline(alloc: Global, pairs: &[(u16, u16)]) -> Mem<String> {
+    let (first, first_end) = pairs.first().copied().unwrap_or((0, 0));
+    let (last, last_end) = pairs.last().copied().unwrap_or((0, 0));
+    format!(in alloc; "{} | {first} {first_end} | {last} {last_end}", pairs.len())
+}
+
 #[test]
 fn a_backward_transfer_at_each_pc_is_taken_in(rt: HostRuntime) -> Result<(), Fail> {
     let alloc = rt.alloc();
-    for (kind, count, first, last) in [
-        ("themselves", 65536, (0, 0), (65535, 65535)),
-        ("the one before", 65535, (0, 65535), (65534, 65535)),
-        ("the mirrored one", 32768, (0, 65535), (32767, 32768)),
-    ] {
-        let transfers = large(alloc, kind)?;
-        let found = ends_of(alloc, &Intervals::of(alloc, &transfers)?)?;
-        assert_eq!(rt; found.len(), count, "{kind}");
-        assert_eq!(rt; found.as_slice().first().copied(), Some(first), "{kind}");
-        assert_eq!(rt; found.as_slice().last().copied(), Some(last), "{kind}");
+    for row in LARGE.lines() {
+        if let Some((kind, wanted)) = row.split_once('|') {
+            let transfers = large(alloc, kind.trim())?;
+            let found = ends_of(alloc, &Intervals::of(alloc, &transfers)?)?;
+            assert_eq!(rt;
+                outline(alloc, found.as_slice())?.as_str(),
+                wanted.trim(),
+                "{row}"
+            );
+        }
     }
     Ok(())
 }

@@ -1,14 +1,12 @@
 // Keys, and their order.
-ghost use Rattle.std.specs.Prelude.{ℕ, Contains};
-ghost use Rattle.uw_keys.specs.Intervals.{Cover};
-
 use crate::graphs::{below, cell, drawn, is_row, next_draw, numbers, pairs};
 use crate::slow::{slow_ends, slow_phases};
-use crate::walks::walk;
+use crate::walks::{Walked, walk};
 use jv_list::{List, Mem};
 use std::alloc::Global;
+use std::cmp::Ordering;
 use std::test::Fail;
-use uw_keys::{Intervals, compare};
+use uw_keys::{Intervals, Key, compare};
 
 // Two loops, one in the other, as a compiler lays them out: the outer one from 2 to 23, the inner one from 9 to 17.
 const NESTED: &str =
@@ -57,46 +55,41 @@ fn named(alloc: Global, name: &str) -> Mem<List<(u16, u16)>> {
     }
 }
 
-#[test]
-fn written_walks_have_their_keys(rt: HostRuntime) -> Result<(), Fail> {
-    let alloc = rt.alloc();
-    for row in WALKED.lines() {
-        if is_row(row) {
-            let transfers = named(alloc, cell(row, 0))?;
-            let intervals = Intervals::of(alloc, &transfers)?;
-            let ends = slow_ends(alloc, transfers.as_slice(), 30)?;
-            let path = numbers(alloc, cell(row, 1))?;
-            let limit = cell(row, 2).parse::<u8>().unwrap_or(0);
-            let walked = walk(
-                alloc,
-                &intervals,
-                &transfers,
-                ends.as_slice(),
-                path.as_slice(),
-                limit,
-            )?;
-            let counters = numbers(alloc, cell(row, 5))?;
-            assert_eq!(rt; cell(row, 3).parse::<u16>(), Ok(walked.made), "{row}");
-            assert_eq!(rt; cell(row, 4).parse::<u16>(), Ok(walked.key.pc), "{row}");
-            assert_eq!(rt; walked.key.counters.length(), counters.len(), "{row}");
-            for (counter, wanted) in walked.key.counters.iter().zip(&counters) {
-                assert_eq!(rt; u16::from(*counter), *wanted, "{row}");
-            }
-            assert_eq!(rt; walked.word, cell(row, 6), "{row}");
-        }
+// Where the walk of a row ended, in the form of the row.
+fn outcome(alloc: Global, row: &str) -> Mem<String> {
+    let transfers = named(alloc, cell(row, 0))?;
+    let intervals = Intervals::of(alloc, &transfers)?;
+    let ends = slow_ends(alloc, transfers.as_slice(), 30)?;
+    let path = numbers(alloc, cell(row, 1))?;
+    let limit = cell(row, 2).parse::<u8>().unwrap_or(0);
+    let walked = walk(
+        alloc,
+        &intervals,
+        &transfers,
+        ends.as_slice(),
+        path.as_slice(),
+        limit,
+    )?;
+    told(alloc, &walked)
+}
+
+// A walk as the cells of a row.
+fn told(alloc: Global, walked: &Walked) -> Mem<String> {
+    let mut text = format!(in alloc; "{} | {} |", walked.made, walked.key.pc)?;
+    for counter in &walked.key.counters {
+        text = format!(in alloc; "{text} {counter}")?;
     }
-    Ok(())
+    format!(in alloc; "{text} | {}", walked.word)
 }
 
 #[test]
-fn a_counter_goes_up_to_the_greatest_limit(rt: HostRuntime) -> Result<(), Fail> {
-    let alloc = rt.alloc();
-    let transfers = pairs(alloc, ALONE)?;
-    let intervals = Intervals::of(alloc, &transfers)?;
-    let walked = walk(alloc, &intervals, &transfers, &[(5, 5)], &[5; 300], 255)?;
-    assert_eq!(rt; walked.word, "left");
-    assert_eq!(rt; walked.made, 256);
-    assert_eq!(rt; walked.key.counters.as_slice().first().copied(), Some(255));
+fn written_walks_have_their_keys(rt: HostRuntime) -> Result<(), Fail> {
+    for row in WALKED.lines() {
+        if is_row(row) {
+            let text = outcome(rt.alloc(), row)?;
+            assert!(rt; row.ends_with(text.as_str()), "{row}: {text}");
+        }
+    }
     Ok(())
 }
 
@@ -112,69 +105,102 @@ fn drawn_path(alloc: Global, pcs: u16, count: u16, seed: u64) -> Mem<Vec<u16>> {
 }
 
 #[test]
-fn drawn_walks_rise_and_compare_as_the_definition_says(rt: HostRuntime) -> Result<(), Fail> {
+fn a_counter_goes_up_to_the_greatest_limit(rt: HostRuntime) -> Result<(), Fail> {
     let alloc = rt.alloc();
+    let transfers = pairs(alloc, "0 0")?;
+    let intervals = Intervals::of(alloc, &transfers)?;
+    let path = drawn_path(alloc, 1, 300, 0)?;
+    let walked = walk(
+        alloc,
+        &intervals,
+        &transfers,
+        &[(0, 0)],
+        path.as_slice(),
+        255,
+    )?;
+    assert_eq!(rt; told(alloc, &walked)?.as_str(), "255 | 0 | 255 | left");
+    Ok(())
+}
+
+// Pcs, transfers, the limit.
+const DRAWN: &str = "
+    3 5 2
+    6 14 1
+    6 14 3
+    12 30 2
+    20 60 4
+";
+
+// Two walks along drawn transfers: a word for what is wrong, or how they ended, and how many transfers were made.
+fn walked_twice(
+    alloc: Global,
+    pcs: u16,
+    count: u16,
+    limit: u8,
+    seed: u64,
+) -> Mem<(&'static str, u16)> {
+    let transfers = drawn(alloc, pcs, count, seed)?;
+    let intervals = Intervals::of(alloc, &transfers)?;
+    let ends = slow_ends(alloc, transfers.as_slice(), pcs)?;
+    let first = drawn_path(alloc, pcs, 100, seed.wrapping_add(1000))?;
+    let second = drawn_path(alloc, pcs, 60, seed.wrapping_add(2000))?;
+    let a = walk(
+        alloc,
+        &intervals,
+        &transfers,
+        ends.as_slice(),
+        first.as_slice(),
+        limit,
+    )?;
+    let b = walk(
+        alloc,
+        &intervals,
+        &transfers,
+        ends.as_slice(),
+        second.as_slice(),
+        limit,
+    )?;
+    let there = slow_order(alloc, ends.as_slice(), &a.key, &b.key, limit)?;
+    let back = slow_order(alloc, ends.as_slice(), &b.key, &a.key, limit)?;
+    if compare(&intervals, &a.key, &b.key) != there || compare(&intervals, &b.key, &a.key) != back {
+        return Ok(("other order", a.made));
+    }
+    Ok((if a.word == "wrong" { b.word } else { a.word }, a.made))
+}
+
+// The order of two keys by the slow definition.
+fn slow_order(alloc: Global, ends: &[(u16, u16)], a: &Key, b: &Key, limit: u8) -> Mem<Ordering> {
+    let here = slow_phases(alloc, ends, a.pc, a.counters.as_slice(), limit)?;
+    let there = slow_phases(alloc, ends, b.pc, b.counters.as_slice(), limit)?;
+    Ok(here.cmp(&there))
+}
+
+// Of sixty graphs of a row: how many walks left, and how many transfers were made; none where something is wrong.
+fn sixty(alloc: Global, row: &str) -> Mem<Option<(u16, u16)>> {
     let mut left: u16 = 0;
-    let mut made: u32 = 0;
-    for (pcs, count, limit) in [(3, 5, 2), (6, 14, 1), (6, 14, 3), (12, 30, 2), (20, 60, 4)] {
+    let mut made: u16 = 0;
+    if let [pcs, count, limit] = numbers(alloc, row)?.as_slice() {
         for seed in 0..60 {
-            let transfers = drawn(alloc, pcs, count, seed)?;
-            let intervals = Intervals::of(alloc, &transfers)?;
-            let ends = slow_ends(alloc, transfers.as_slice(), pcs)?;
-            let first = drawn_path(alloc, pcs, 100, seed + 1000)?;
-            let second = drawn_path(alloc, pcs, 60, seed + 2000)?;
-            let a = walk(
-                alloc,
-                &intervals,
-                &transfers,
-                ends.as_slice(),
-                first.as_slice(),
-                limit,
-            )?;
-            let b = walk(
-                alloc,
-                &intervals,
-                &transfers,
-                ends.as_slice(),
-                second.as_slice(),
-                limit,
-            )?;
-            assert_ne!(rt; a.word, "wrong", "{pcs} pcs, seed {seed}");
-            assert_ne!(rt; b.word, "wrong", "{pcs} pcs, seed {seed}");
-            let here = slow_phases(
-                alloc,
-                ends.as_slice(),
-                a.key.pc,
-                a.key.counters.as_slice(),
-                limit,
-            )?;
-            let there = slow_phases(
-                alloc,
-                ends.as_slice(),
-                b.key.pc,
-                b.key.counters.as_slice(),
-                limit,
-            )?;
-            assert_eq!(rt;
-                compare(&intervals, &a.key, &b.key),
-                here.cmp(&there),
-                "{pcs} pcs, seed {seed}"
-            );
-            assert_eq!(rt;
-                compare(&intervals, &b.key, &a.key),
-                there.cmp(&here),
-                "{pcs} pcs, seed {seed}"
-            );
-            made = made
-                .saturating_add(u32::from(a.made))
-                .saturating_add(u32::from(b.made));
-            if a.word == "left" {
-                left = left.saturating_add(1);
+            let limit = u8::try_from(*limit).unwrap_or(0);
+            let (word, count) = walked_twice(alloc, *pcs, *count, limit, seed)?;
+            match word {
+                "left" => left = left.saturating_add(1),
+                "on" => {}
+                _ => return Ok(None),
             }
+            made = made.saturating_add(count);
         }
     }
-    // many transfers were made, and many walks left the bounds
-    assert!(rt; made > 2000, "{made} transfers");
-    assert!(rt; left > 50, "{left} walks left");
+    Ok(Some((left, made)))
+}
+
+#[test]
+fn drawn_walks_rise_and_compare_as_the_definition_says(rt: HostRuntime) -> Result<(), Fail> {
+    for row in DRAWN.lines() {
+        if is_row(row) {
+            let (left, made) = sixty(rt.alloc(), row)?.ok_or("wrong")?;
+            assert!(rt; left > 0 && made > 100, "{row}: {left} left, {made} made");
+        }
+    }
     Ok(())
 }

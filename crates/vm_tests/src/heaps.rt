@@ -3,7 +3,9 @@ use crate::tables::{cell, number_of, place_of, printed, rows, text_of};
 use jv_base::{FieldId, List, Name, TryCopy, Value};
 use st_text::Text;
 use std::process::Abort;
-use vm_world::{Fields, Heap, Object, Slot, TextKind, field_laws, heap_laws, is_same_field, one_start};
+use vm_world::{
+    Fields, Heap, Object, Slot, TextKind, field_laws, heap_laws, is_same_field, one_start,
+};
 
 fn name<R: Abort + AllocGlobal>(rt: &R, text: &str) -> Name {
     Name::from_text(rt.alloc(), text).expect(rt, "memory")

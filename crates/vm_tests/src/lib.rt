@@ -1,8 +1,12 @@
-//! Tests of the public calls of texts and of the state of the machine. What they expect of texts was written by the JVM.
+//! Tests of the public calls of texts, of the state of the machine and of library rows. What they expect of texts was written by the JVM.
 #![tactic(auto)]
 
 #[cfg(test)]
 mod heaps;
+#[cfg(test)]
+mod library;
+#[cfg(test)]
+mod library_rows;
 #[cfg(test)]
 mod states;
 #[cfg(test)]

@@ -11,7 +11,8 @@ pub number_over-requires : goal.number_over-requires
 number_over-requires c =
     let given = rw c.operands.ensures at c.in-Some-given_by.ensures.some in
     record {
-      sorts = (third_of Truth (term_sort c.args.bank.now) (operands_of c.args.op), rw (given.s, given.t) c.requires.fits.sorts);
+      sorts = (third_of Truth (term_sort c.args.bank.now) (operands_of c.args.op), rw (given.s, given.t)
+          c.requires.fits.sorts);
       second = given-below c.args.bank.now (operands_of c.args.op) c.in-Some-given_by.given given;
     }
 
@@ -19,7 +20,8 @@ pub returns-in-Some-given_by : goal.returns-in-Some-given_by
 returns-in-Some-given_by c =
     let given = rw c.operands.ensures at c.in-Some-given_by.ensures.some in
     record {
-      replaces = fold-replaces c.args.bank.now c.args.op c.in-Some-given_by.given given c.requires.kept c.sort_over.result
+      replaces = fold-replaces c.args.bank.now c.args.op c.in-Some-given_by.given given c.requires.kept
+          c.sort_over.result
           c.number_over.result c.sort_over.ensures c.number_over.ensures;
       folded = refl;
       reduced = fold-below c.args.bank.now c.args.op c.in-Some-given_by.given given c.requires.kept c.sort_over.result

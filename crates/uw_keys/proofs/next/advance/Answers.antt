@@ -44,12 +44,10 @@ module _ (is : List Interval) (key : Key) (a b : ℕ) (from : key.pc ≡ a) (cou
   made_of of = subst (λ (next : Key). IsKeyOf is next) (sym made) (transfer_keeps is key b of)
 
   made_rises : (limit : ℕ → ℕ) → AreNested is → IsKeyOf is key → Cover is a b → AreWithin limit is key.counters
-      → AreWithin limit is (counters_after a b is key.counters)
       → key_order limit is key record { pc = b; counters = counters } ≡ Less
-  made_rises limit nested of cover within within' =
+  made_rises limit nested of cover within =
       subst (λ (next : Key). key_order limit is key next ≡ Less) (sym made)
-      (transfer_rises limit is key b nested of (subst (λ (pc : ℕ). Cover is pc b) (sym from) cover) within
-      (subst (λ (pc : ℕ). AreWithin limit is (counters_after pc b is key.counters)) (sym from) within'))
+      (transfer_rises limit is key b nested of (subst (λ (pc : ℕ). Cover is pc b) (sym from) cover) within)
 
 pub returns-clause-of : goal.returns-clause-of
 returns-clause-of c =
@@ -68,4 +66,4 @@ returns-clause-rises c =
     c.loop-place.place c.loop-place.counters c.loop-place.invariant past in
     made_rises c.args.intervals.now c.args.key.now c.args.from c.args.to c.requires.from c.loop-place.counters end.0
     (always c.args.unwind) c.as_slice-interval-items.ensures.nested c.requires.key c.requires.transfer
-    c.requires.within end.1
+    c.requires.within

@@ -6,4 +6,5 @@ pub returns-clause-terms : goal.returns-clause-terms
 returns-clause-terms c = rw (← c.self.view_is) c.self.invariant.terms
 
 pub returns-clause-shared : goal.returns-clause-shared
-returns-clause-shared c = rw (← c.self.view_is) (shared-by c.self.inside.ops c.self.inside.places c.self.invariant.placed)
+returns-clause-shared c = rw (← c.self.view_is) (shared-by c.self.inside.ops c.self.inside.places
+    c.self.invariant.placed)

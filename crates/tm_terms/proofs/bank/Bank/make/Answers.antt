@@ -21,5 +21,5 @@ returns-in-Some c =
           (replaces_itself old c.args.op c.requires kept) kept terms (inl refl) found;
       keeps = ([], sym (append-nil old));
       free = λ f. absurd (true≢false (sym f ∙ kept));
-      again = λ k _ e. (shared c.in-Some.place k c.args.op kept found e, refl);
+      again = λ k _ e. let same = shared c.in-Some.place k c.args.op kept found e in (rw same refl, refl);
     }

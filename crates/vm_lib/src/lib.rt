@@ -1,0 +1,21 @@
+//! What the methods of java.lang.String and java.lang.StringBuilder do to the state of the machine.
+#![tactic(auto)]
+
+mod builder;
+mod object;
+mod operand;
+mod plan;
+mod string;
+mod value;
+
+pub use builder::{
+    append_boolean, append_char, append_int, append_text, builder_char_at, builder_length, init,
+    init_text, to_string,
+};
+pub use object::same_object;
+pub use operand::{builder_of, string_of};
+pub use plan::{Effect, Plan, carry_out};
+pub use string::{
+    char_at, compare_to, concat, ends_with, equals, index_of, is_empty, length, of_boolean,
+    of_char, of_int, starts_with, substring, tail,
+};
