@@ -64,7 +64,7 @@ module _ (bytes : List ℕ) (start : ℕ) (rows : List Row) where
       place_is = each_next one row_text start rows i place x lt is done.place_is;
       passed = λ pool. subst (ArePassed pool) (sym (each_more one row_text start rows i place x lt is done.place_is))
           (passed_append pool (each_at one row_text [] start (take i rows)) (row_checks bytes place x) (done.passed
-              pool)
+          pool)
           (passes pool, tt));
     }
 
@@ -80,7 +80,7 @@ module _ (bytes : List ℕ) (start : ℕ) (rows : List Row) where
       → ArePassed pool (rows_checks bytes start rows)
   all_done i place le done pool =
       subst (λ (rs : List Row). ArePassed pool (each_at one row_text [] start rs)) (take_all i rows le) (done.passed
-          pool)
+      pool)
 
 -- checks of elements, one element after the other
 module _ {B : Type 0} (pool : List PoolEntry) (one : B → List CheckAt) (xs : List B) (i : ℕ) (x : B) (lt : i < length

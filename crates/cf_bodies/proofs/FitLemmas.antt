@@ -33,7 +33,7 @@ later low high (c ∷ cs) le h =
 -- of structures one after the other
 module _ {A : Type 0} (one : List A → ℕ → A → List PlacedCode) (text : A → List ℕ) (Fits : A → Type 0)
     (each : (earlier : List A) (place : ℕ) (x : A) → Fits x
-        → AllEnd (place + length (text x)) (one earlier place x)) where
+    → AllEnd (place + length (text x)) (one earlier place x)) where
   each_ends : (earlier : List A) (place : ℕ) (xs : List A) → AllByRecursion Fits xs
       → AllEnd (place + length (flat_map text xs)) (each_at one text earlier place xs)
   unfolding each_at AllEnd

@@ -24,8 +24,11 @@ laid_behind pc (y ∷ code) laid x member = elim (member_cases y code x member) 
 -- those from one on
 pub laid_from : (pc : ℕ) (before : List Placed) (x : Placed) (after : List Placed) → IsLaid pc (before ++ x ∷ after)
     → IsLaid x.pc (x ∷ after)
-laid_from pc [] x after laid = (refl, subst (λ (n : ℕ). IsLaid (n + length (spelling x.pc x.instr)) after) (sym
-    laid.0) laid.1)
+laid_from pc [] x after laid = (
+  refl,
+  subst (λ (n : ℕ). IsLaid (n + length (spelling x.pc x.instr)) after) (sym
+      laid.0) laid.1,
+)
 laid_from pc (y ∷ before) x after laid = laid_from (pc + length (spelling y.pc y.instr)) before x after laid.1
 
 module _ (law : HasItsSize) where

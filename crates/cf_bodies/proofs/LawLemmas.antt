@@ -68,10 +68,16 @@ module _ (size : HasItsSize) (one_code : IsOneCode) (none : IsNoCode) (one : IsO
 
     row_by : (code : List Placed) (end : End) → EndsAs bytes code end → (place : ℕ) (row : Row)
         → FirstOrAll pool (row_checks bytes place row)
-    row_by code (BadOpcode pc) ends place row = inr (no_row (λ other is. none bytes pc other (inl ends.0) is) place
-        row, tt)
-    row_by code (BadTarget pc) ends place row = inr (no_row (λ other is. none bytes pc other (inr ends.0) is) place
-        row, tt)
+    row_by code (BadOpcode pc) ends place row = inr (
+      no_row (λ other is. none bytes pc other (inl ends.0) is) place
+          row,
+      tt,
+    )
+    row_by code (BadTarget pc) ends place row = inr (
+      no_row (λ other is. none bytes pc other (inr ends.0) is) place
+          row,
+      tt,
+    )
     row_by code Whole ends place row = elim (row_of (pcs code) (length bytes) row) [
       | inl good ↦ inr (row_passes one_code pool bytes short code ends place row good, tt)
       | inr bad ↦ this_fails _ _ (row_fails one_code pool bytes short code ends place row bad)

@@ -100,8 +100,19 @@ module _ (law : PlainClassDecided) (pool : List PoolEntry) where
   first_unmet [] = inr tt
   first_unmet (x ∷ code) = elim (met (need x.instr)) [
     | inr unmet ↦
-        inl (x.pc, record { before = []; placed = x; after = code; parts = refl; met = tt; unmet = unmet; pc_is =
-            refl })
+        inl (
+          x.pc,
+          record {
+            before = [];
+            placed = x;
+            after = code;
+            parts = refl;
+            met = tt;
+            unmet = unmet;
+            pc_is =
+                refl;
+          },
+        )
     | inl is ↦ elim (first_unmet code) [
       | inr others ↦ inr (is, others)
       | inl u ↦ inl (u.0, further x code u.0 is u.1)

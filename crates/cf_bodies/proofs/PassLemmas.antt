@@ -12,7 +12,7 @@ use Rattle.cf_bodies.specs.Laws.{OneVerdictOf}
 
 module _ (bytes : List ℕ) (parts : ExactlyOne (IsStructure bytes) (IsStructureFault bytes))
     (names : (file : RawFile) → OneJudgementOf file) (code : (file : RawFile) → IsStructure bytes file
-        → OneVerdictOf file) where
+    → OneVerdictOf file) where
   by_code : (file : RawFile) → IsStructure bytes file → IsJudged file
       → ((f : RawFile) × IsInOrder bytes f) ⊎ ((fault : Fault) × IsFaultOf bytes fault)
   by_code file s j = elim (code file s).one [

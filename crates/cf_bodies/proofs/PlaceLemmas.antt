@@ -41,7 +41,7 @@ module _ {A B : Type 0} (view : B → A) (one : ℕ → A → List PlacedCode) (
       found_is = more_is ∙ ap (λ (cs : List PlacedCode). cs ++ one place (view x)) done.found_is
           ∙ append_assoc old (each_at each texts [] start (take i xs)) (one place (view x))
           ∙ ap (λ (cs : List PlacedCode). old ++ cs) (sym (each_more each texts start xs i place x lt is
-              done.place_is));
+          done.place_is));
     }
 
   pub all_found : (i place : ℕ) (found : List PlacedCode) → length xs ≤ i → AreFound i place found

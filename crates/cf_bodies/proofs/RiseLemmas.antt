@@ -42,7 +42,7 @@ codes_append low mid high (c ∷ xs) ys h k =
 
 module _ {A : Type 0} (one : List A → ℕ → A → List PlacedCode) (text : A → List ℕ)
     (each : (earlier : List A) (place : ℕ) (x : A)
-        → CodesRise place (place + length (text x)) (one earlier place x)) where
+    → CodesRise place (place + length (text x)) (one earlier place x)) where
   each_codes : (earlier : List A) (place : ℕ) (xs : List A)
       → CodesRise place (place + length (flat_map text xs)) (each_at one text earlier place xs)
   unfolding each_at CodesRise
@@ -74,13 +74,13 @@ method_rises earlier place m =
     let end : ℕ = place + length (member_text m) in
     from_lower place (place + 8) end (method_codes place m) (omega arith)
     (up_to (place + 8) (place + 8 + length (flat_map attribute_text m.attributes)) end (method_codes place m) (omega
-        arith)
+    arith)
     (each_codes (λ (before : List RawAttribute). attribute_codes) attribute_text attribute_rises [] (place + 8)
     m.attributes))
 
 codes_rise : (file : RawFile)
     → CodesRise (methods_start file) (methods_start file + length (flat_map member_text file.class.methods)) (codes
-        file)
+    file)
 codes_rise file =
     each_codes (λ (before : List RawMember). method_codes) member_text method_rises [] (methods_start file)
     file.class.methods
@@ -123,7 +123,7 @@ module _ (pool : List PoolEntry) where
 
   rows_rise : (bytes : List ℕ) (earlier : List Row) (place : ℕ) (rows : List Row)
       → Rise place (place + length (flat_map row_text rows)) (each_at (λ (e : List Row). row_checks bytes) row_text
-          earlier place rows)
+      earlier place rows)
   unfolding Rise each_at
   rows_rise bytes earlier place [] = omega arith
   rows_rise bytes earlier place (r ∷ rows) = (
@@ -168,5 +168,5 @@ module _ (pool : List PoolEntry) where
 
     pub file_rises : (file : RawFile) → AreShort file
         → Rise (methods_start file) (methods_start file + length (flat_map member_text file.class.methods)) (checks
-            file)
+        file)
     file_rises file short = checks_rise _ _ (codes file) (codes_rise file) short

@@ -3,9 +3,7 @@
 use crate::entries::repeated;
 use crate::structures::SMALLEST;
 use crate::tables::{bytes_of, four_of, number_of, rows, three_of};
-use cf_judge::{
-    Form, Wanted, judge, one_first, one_judgement, plain_class_decided, wrong_index,
-};
+use cf_judge::{Form, Wanted, judge, one_first, one_judgement, plain_class_decided, wrong_index};
 use cf_pool::What;
 use cf_structure::{ClassFault, read_structure};
 use std::process::Abort;

@@ -1,5 +1,5 @@
 -- The first element of a list that breaks a rule, and what each of them keeps.
-use Rattle.std.proofs.Common.{◌≡◌, List, [], ◌∷◌, ◌++◌, refl, sym, subst, ap, inl, inr, ◌⊎◌}
+use Rattle.std.proofs.Common.{List, [], ◌∷◌, ◌++◌, subst, inl, inr}
 use Rattle.std.specs.List.{Contains, AllByRecursion}
 use Rattle.jv_list.specs.Firsts.{FirstBreaks}
 use Rattle.jv_list.proofs.MemberLemmas.{none_member, member_cases}

@@ -24,7 +24,7 @@ module _ {X : Type 0} where
   last_none (y ∷ []) e = absurd (none-some y (sym e))
   last_none (y ∷ (z ∷ zs)) e =
       let rest : z ∷ zs ≡ [] = last_none (z ∷ zs) (sym (ap (λ (i : ℕ). slice_get (y ∷ (z ∷ zs)) i) (before_last y z
-          zs)) ∙ e) in
+      zs)) ∙ e) in
       absurd cc
 
   -- the last comes first in the reversed list

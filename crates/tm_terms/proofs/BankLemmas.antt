@@ -1,6 +1,6 @@
 -- What holds of every bank holds of it with one more term.
-use Rattle.std.proofs.Common.{◌≡◌, ℕ, ◌<◌, ◌≤◌, List, [], ◌∷◌, ◌++◌, length, take, inl, inr, ◌⊎◌, Bool, true, false}
-use Rattle.std.proofs.Common.{cond, ◌&&◌}
+use Rattle.std.proofs.Common.{◌≡◌, ℕ, ◌<◌, ◌≤◌, List, [], ◌∷◌, ◌++◌, length}
+use Rattle.std.proofs.Common.{take, inl, inr, ◌⊎◌, Bool, true, false, cond, ◌&&◌}
 use Rattle.std.proofs.Common.{Some, None, refl, sym, ap, ◌∙◌, arith, subst, true≢false}
 use Rattle.std.specs.Prelude.{slice_get}
 use Rattle.std.specs.HashMap.{HashMap}
@@ -34,8 +34,8 @@ constants-push ops op (One a) h = ap is_const (get-push ops op a.0 h)
 constants-push ops op (Two a b) h =
     ap (λ x. is_const x && is_const (slice_get (ops ++ op ∷ []) b.0)) (get-push ops op a.0 h.0)
     ∙ ap (λ x. is_const (slice_get ops a.0) && is_const x) (get-push ops op b.0 h.1)
-constants-push ops op (Three a b c) h = rw (get-push ops op a.0 h.0) (rw (get-push ops op b.0 h.1) (rw (get-push ops
-    op c.0 h.2) refl))
+constants-push ops op (Three a b c) h = rw (get-push ops op a.0 h.0)
+    (rw (get-push ops op b.0 h.1) (rw (get-push ops op c.0 h.2) refl))
 
 -- operands below a front of the bank are below its length
 pub below-more : (m n : ℕ) (o : Operands) → m ≤ n → AreBelow m o → AreBelow n o

@@ -31,8 +31,8 @@ module _ (ops : List Op) (a b : TermId) where
   bit_and_zero fits zero = same-by ops (BitAnd a b) b fits.below.1 fits.sorts (λ v. rw (zero.value v) (and_zero_r _))
 
   pub zero_bit_and : Fits ops (BitAnd a b) → HasNumber ops a 0 → IsSame ops (BitAnd a b) a
-  zero_bit_and fits zero = same-by ops (BitAnd a b) a fits.below.0 refl (λ v. rw (zero.value v) (and_zero_l
-      (term_value ops v b.0)))
+  zero_bit_and fits zero = same-by ops (BitAnd a b) a fits.below.0 refl
+      (λ v. rw (zero.value v) (and_zero_l (term_value ops v b.0)))
 
   pub bit_and_equal : Fits ops (BitAnd a b) → b ≡ a → IsSame ops (BitAnd a b) a
   bit_and_equal fits equal = same-by ops (BitAnd a b) a fits.below.0 refl (λ v. rw equal (and_self _))

@@ -41,11 +41,11 @@ pub named-kept : (s : Sort) (x y z i j : ℕ) (op : Op) → is_free op ≡ false
 named-kept s x y z i j (Free t) h = absurd (true≢false h)
 named-kept s x y z i j _ h = refl
 
-module _ (ops : List Op) (op : Op) (g : Given) (given : AreGiven ops (operands_of op) g) (kept : is_free op ≡ false)
-    where
+module _ (ops : List Op) (op : Op) (g : Given) (given : AreGiven ops (operands_of op) g)
+    (kept : is_free op ≡ false) where
   -- the number that was computed of constants is the value
-  number-given : (v : List ℕ)
-      → named_number g.s g.x g.y g.z 0 op % 2 ^ width_of (sort_over g.s g.t op) ≡ op_value ops v op
+  number-given : (v : List ℕ) → named_number g.s g.x g.y g.z 0 op % 2 ^ width_of (sort_over g.s g.t op) ≡
+      op_value ops v op
   number-given v =
       rw (given.x v, given.y v, given.z v, ← given.s, ← given.t)
       (ap (λ (n : ℕ). n % 2 ^ width_of (sort_over g.s g.t op)) (named-kept g.s g.x g.y g.z 0 _ op kept))

@@ -14,29 +14,47 @@ module _ (ops : List Op) (terms : AreTerms ops) (k : TermId) (x y : TermId) wher
   pub implies_first : slice_get ops k.0 ≡ Some (And x y) → Implies ops k x
   implies_first e = let f = fits-stands ops k.0 (And x y) terms e in record {
     value = λ v.
-        omega (arith, value-stands ops terms k.0 (And x y) e v refl, truth-below ops v x.0 f.sorts.0, truth-below ops
-            v y.0 f.sorts.1);
+        omega (
+          arith,
+          value-stands ops terms k.0 (And x y) e v refl,
+          truth-below ops v x.0 f.sorts.0,
+          truth-below ops v y.0 f.sorts.1,
+        );
   }
 
   pub implies_second : slice_get ops k.0 ≡ Some (And x y) → Implies ops k y
   implies_second e = let f = fits-stands ops k.0 (And x y) terms e in record {
     value = λ v.
-        omega (arith, value-stands ops terms k.0 (And x y) e v refl, truth-below ops v x.0 f.sorts.0, truth-below ops
-            v y.0 f.sorts.1);
+        omega (
+          arith,
+          value-stands ops terms k.0 (And x y) e v refl,
+          truth-below ops v x.0 f.sorts.0,
+          truth-below ops v y.0 f.sorts.1,
+        );
   }
 
   pub first_implies : slice_get ops k.0 ≡ Some (Or x y) → Implies ops x k
   first_implies e = let f = fits-stands ops k.0 (Or x y) terms e in record {
     value = λ v.
-        omega (arith, value-stands ops terms k.0 (Or x y) e v refl, truth-below ops v x.0 f.sorts.0, truth-below ops
-            v y.0 f.sorts.1);
+        omega (
+          arith,
+          value-stands ops terms k.0 (Or x y) e v refl,
+          truth-below ops v x.0 f.sorts.0,
+          truth-below
+              ops v y.0 f.sorts.1,
+        );
   }
 
   pub second_implies : slice_get ops k.0 ≡ Some (Or x y) → Implies ops y k
   second_implies e = let f = fits-stands ops k.0 (Or x y) terms e in record {
     value = λ v.
-        omega (arith, value-stands ops terms k.0 (Or x y) e v refl, truth-below ops v x.0 f.sorts.0, truth-below ops
-            v y.0 f.sorts.1);
+        omega (
+          arith,
+          value-stands ops terms k.0 (Or x y) e v refl,
+          truth-below ops v x.0 f.sorts.0,
+          truth-below
+              ops v y.0 f.sorts.1,
+        );
   }
 
 module _ (ops : List Op) (a b : TermId) where

@@ -1,6 +1,6 @@
 -- Operations on equal or opposite operands that are constants.
-use Rattle.std.proofs.Common.{◌≡◌, ℕ, ◌+◌, ◌-◌, ◌%◌, ◌^◌, ◌<◌, ◌==◌, List, Some, refl, sym, ap, ◌∙◌, arith, false}
-use Rattle.std.proofs.Common.{lit<, ℤ, pos, negsuc}
+use Rattle.std.proofs.Common.{◌≡◌, ℕ, ◌+◌, ◌-◌, ◌%◌, ◌^◌, ◌<◌, ◌==◌, List, Some}
+use Rattle.std.proofs.Common.{refl, sym, ap, ◌∙◌, arith, false, lit<, ℤ, pos, negsuc}
 use Rattle.std.specs.Prelude.{slice_get, nat_lt, int_lt}
 use Rattle.std.specs.Int.Bits.{xor_self}
 use Rattle.std.proofs.Math.Nat.{mod-eq_of_lt, mod_self}
@@ -18,8 +18,8 @@ use Rattle.tm_terms.proofs.SameLemmas.{truth-below}
 use Rattle.tm_terms.proofs.MakeLemmas.{value-stands}
 
 -- the number that is named, where it is below the power
-known-by : (ops : List Op) (op : Op) (k : ℕ) → k < 2 ^ width_of (op_sort ops op) → ((v : List ℕ)
-    → named_of ops v op ≡ k)
+known-by : (ops : List Op) (op : Op) (k : ℕ) → k < 2 ^ width_of (op_sort ops op) →
+    ((v : List ℕ) → named_of ops v op ≡ k)
     → IsKnown ops op k
 known-by ops op k below named = record {
   within = below;
@@ -46,8 +46,8 @@ module _ (ops : List Op) (a b : TermId) (equal : b ≡ a) where
   pub sub_equal : IsKnown ops (Sub a b) 0
   sub_equal = record {
     within = pow_pos _;
-    value = λ v. rw equal (sub-itself (term_value ops v a.0) (2 ^ width_of (term_sort ops a.0)) (value-below ops v
-        a.0));
+    value = λ v. rw equal (sub-itself (term_value ops v a.0) (2 ^ width_of (term_sort ops a.0))
+        (value-below ops v a.0));
   }
 
   pub xor_equal : IsKnown ops (BitXor a b) 0

@@ -12,8 +12,8 @@ use Rattle.tm_terms.specs.Words.{width_of, bit_number}
 use Rattle.tm_terms.specs.Equations.{sort_by, number_by}
 use Rattle.tm_terms.specs.Terms.{is_free, free_count, term_sort, term_value, op_sort, op_value, Fits, AreTerms}
 use Rattle.tm_terms.specs.Rules.{Replaces, IsMade}
-use Rattle.tm_terms.proofs.TermLemmas.{sort-take, value-take, sort-append, value-append, sort_by-same, number_by-same}
-use Rattle.tm_terms.proofs.TermLemmas.{free_count-append}
+use Rattle.tm_terms.proofs.TermLemmas.{sort-take, value-take, sort-append}
+use Rattle.tm_terms.proofs.TermLemmas.{value-append, sort_by-same, number_by-same, free_count-append}
 use Rattle.tm_terms.proofs.TermLemmas.{sort-push_last, value-push_last}
 use Rattle.tm_terms.proofs.ValueLemmas.{sort-at, value-at}
 use Rattle.tm_terms.proofs.FoldLemmas.{named-kept}
@@ -32,7 +32,7 @@ pub op_value-append : (ops more : List Op) (v : List ℕ) (op : Op) → Fits ops
     → op_value (ops ++ more) v op ≡ op_value ops v op
 op_value-append ops more v op fits kept =
     number_by-same (length ops) (term_sort (ops ++ more)) (term_sort ops) (λ k h. sort-append ops more k h) op
-        fits.below
+    fits.below
     (term_value (ops ++ more) v) (term_value ops v) (λ k h. value-append ops more v k h) _
     ∙ number-kept (term_sort ops) (term_value ops v) _ _ op kept
 
@@ -70,8 +70,8 @@ replaces_through ops a b c r s = record {
 }
 
 -- the term of an operation that stands for another
-pub made-by : (old new : List Op) (op other : Op) (id : TermId) → Replaces old op other → is_free op ≡ false
-    → AreTerms new
+pub made-by : (old new : List Op) (op other : Op) (id : TermId) → Replaces old op other → is_free op ≡ false →
+    AreTerms new
     → (new ≡ old) ⊎ (new ≡ old ++ other ∷ []) → slice_get new id.0 ≡ Some other → IsMade old new op id
 made-by old new op other id r kept terms (inl same) e = record {
   within = slice_get_within new id.0 other e;
@@ -88,8 +88,8 @@ made-by old new op other id r kept terms (inr more) e = record {
 }
 
 -- a free term
-pub made-free : (old : List Op) (sort : Sort) (id : TermId) → id.0 ≡ length old
-    → IsMade old (old ++ Free sort ∷ []) (Free sort) id
+pub made-free : (old : List Op) (sort : Sort) (id : TermId) → id.0 ≡ length old → IsMade old
+    (old ++ Free sort ∷ []) (Free sort) id
 made-free old sort id e = record {
   within = omega (arith, e, length-append old (Free sort ∷ []));
   sort = rw e (sort-push_last old (Free sort));

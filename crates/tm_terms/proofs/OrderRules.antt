@@ -75,5 +75,13 @@ module _ (ops : List Op) (a b : TermId) where
       word-ordered BitXor (record { below = (fits.below.1, fits.below.0); sorts = sym fits.sorts }) fits.sorts
       (λ v. xor_comm (term_value ops v b.0) (term_value ops v a.0)) refl
 
-pub ruleset ordered_rules = (and_ordered, or_ordered, equal_ordered, add_ordered, mul_ordered, bit_and_ordered,
-    bit_or_ordered, bit_xor_ordered)
+pub ruleset ordered_rules = (
+  and_ordered,
+  or_ordered,
+  equal_ordered,
+  add_ordered,
+  mul_ordered,
+  bit_and_ordered,
+  bit_or_ordered,
+  bit_xor_ordered,
+)

@@ -33,8 +33,8 @@ module _ (ops : List Op) (c a b : TermId) (fits : Fits ops (If c a b)) (sort : t
     fits = record { below = (fits.below.0, fits.below.1); sorts = (fits.sorts.0, sort) };
     sort = sym sort;
     value = λ v. rw (sort, zero.value v) (ap (λ (n : ℕ). n % 2)
-        (both-choice (term_value ops v c.0) (term_value ops v a.0) (truth-below ops v c.0 fits.sorts.0) (truth-below
-            ops v a.0 sort)));
+        (both-choice (term_value ops v c.0) (term_value ops v a.0) (truth-below ops v c.0 fits.sorts.0)
+        (truth-below ops v a.0 sort)));
     kept = refl;
   }
 
@@ -62,8 +62,8 @@ module _ (ops : List Op) (a b : TermId) (fits : Fits ops (Equal a b)) (sort : te
   equal_false zero = record {
     fits = record { below = fits.below.0; sorts = sort };
     sort = refl;
-    value = λ v. rw (zero.value v) (ap (λ (n : ℕ). n % 2) (not-zero (term_value ops v a.0) (truth-below ops v a.0
-        sort)));
+    value = λ v. rw (zero.value v) (ap (λ (n : ℕ). n % 2)
+        (not-zero (term_value ops v a.0) (truth-below ops v a.0 sort)));
     kept = refl;
   }
 

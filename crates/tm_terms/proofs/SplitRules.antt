@@ -34,14 +34,21 @@ module _ (ops : List Op) (terms : AreTerms ops) (k : TermId) (x y : TermId) wher
   }
 
 -- the conjunctions of a truth value with another and with its opposite
-pub split_by_opposites : (ops : List Op) (a b g c d : TermId) → IsBoth ops a g c → IsBoth ops b g d
-    → AreOpposite ops c d
+pub split_by_opposites : (ops : List Op) (a b g c d : TermId) → IsBoth ops a g c → IsBoth ops b g d →
+    AreOpposite ops c d
     → IsSplit ops a b g
 split_by_opposites ops a b g c d p q o = record {
   within = p.first;
   sort = p.sort;
-  value = λ v. omega (arith, p.value v, q.value v, o.value v, truth-below ops v g.0 p.sort, truth-below ops v c.0
-      p.other);
+  value = λ v. omega (
+    arith,
+    p.value v,
+    q.value v,
+    o.value v,
+    truth-below ops v g.0 p.sort,
+    truth-below ops v
+        c.0 p.other,
+  );
 }
 
 pub or_split : (ops : List Op) (a b g : TermId) → Fits ops (Or a b) → IsSplit ops a b g → IsSame ops (Or a b) g

@@ -22,8 +22,8 @@ module _ (ops : List Op) (a b : TermId) where
     within = fits.below.0;
     sort = refl;
     value = λ v. rw (zero.value v, sub-zero (2 ^ width_of (term_sort ops a.0)))
-        (sym (add-mod_right (term_value ops v a.0) (2 ^ width_of (term_sort ops a.0)) ∙ mod-eq_of_lt (value-below ops
-            v a.0)));
+        (sym (add-mod_right (term_value ops v a.0) (2 ^ width_of (term_sort ops a.0)) ∙ mod-eq_of_lt
+        (value-below ops v a.0)));
   }
 
   pub mul_zero : Fits ops (Mul a b) → HasNumber ops b 0 → IsSame ops (Mul a b) b

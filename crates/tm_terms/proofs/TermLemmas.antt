@@ -62,8 +62,8 @@ sort-append ops [] k h = rw append-nil refl
 sort-append ops (op ∷ more) k h =
     let e : (ops ++ op ∷ []) ++ more ≡ ops ++ op ∷ more = append_assoc ops (op ∷ []) more in
     let longer : k < length (ops ++ op ∷ []) = omega (arith, length-append ops (op ∷ [])) in
-    ap (λ (xs : List Op). term_sort xs k) (sym e) ∙ sort-append (ops ++ op ∷ []) more k longer ∙ sort-push_other ops
-        op k h
+    ap (λ (xs : List Op). term_sort xs k) (sym e) ∙ sort-append (ops ++ op ∷ []) more k longer ∙ sort-push_other
+    ops op k h
 
 pub value-append : (ops more : List Op) (v : List ℕ) (k : ℕ) → k < length ops
     → term_value (ops ++ more) v k ≡ term_value ops v k
@@ -85,8 +85,8 @@ value-take ops n v k h =
     sym (value-append (take n ops) _ v k h) ∙ ap (λ (xs : List Op). term_value xs v k) (take-append-drop n ops)
 
 -- a value is below 2 to the power of its term's width
-value_among-below : (v : List ℕ) (earlier : List Op) (k : ℕ)
-    → value_among v earlier k < 2 ^ width_of (sort_among earlier k)
+value_among-below : (v : List ℕ) (earlier : List Op) (k : ℕ) → value_among v earlier k < 2 ^ width_of
+    (sort_among earlier k)
 unfolding value_among sort_among
 value_among-below v [] k = lit< tt
 value_among-below v (op ∷ earlier) k =
@@ -118,8 +118,8 @@ module _ {A : Type 0} (d : A) (n : ℕ) (f g : ℕ → A) (same : (k : ℕ) → 
   third-same (Two a b) h = refl
   third-same (Three a b c) h = same c.0 h.2
 
-module _ (n : ℕ) (s t : ℕ → Sort) (sorts : (k : ℕ) → k < n → s k ≡ t k) (op : Op) (h : AreBelow n (operands_of op))
-    where
+module _ (n : ℕ) (s t : ℕ → Sort) (sorts : (k : ℕ) → k < n → s k ≡ t k) (op : Op)
+    (h : AreBelow n (operands_of op)) where
   pub sort_by-same : sort_by s op ≡ sort_by t op
   sort_by-same =
       rw (first-same Truth n s t sorts (operands_of op) h) (rw (second-same Truth n s t sorts (operands_of op) h) refl)

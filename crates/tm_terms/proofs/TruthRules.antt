@@ -74,14 +74,14 @@ module _ (ops : List Op) (a b : TermId) where
     if_false fits zero = same-by ops (If c a b) b fits.below.2 fits.sorts.1 (λ v. rw (zero.value v) refl)
 
     pub if_equal : Fits ops (If c a b) → b ≡ a → IsSame ops (If c a b) a
-    if_equal fits equal = same-by ops (If c a b) a fits.below.1 refl (λ v. rw equal (cond-self (term_value ops v c.0
-        == 0) (term_value ops v a.0)))
+    if_equal fits equal = same-by ops (If c a b) a fits.below.1 refl
+        (λ v. rw equal (cond-self (term_value ops v c.0 == 0) (term_value ops v a.0)))
 
     pub if_choice : Fits ops (If c a b) → term_sort ops a.0 ≡ Truth → HasNumber ops a 1 → HasNumber ops b 0
         → IsSame ops (If c a b) c
     if_choice fits sort one zero = same-by ops (If c a b) c fits.below.0 (fits.sorts.0 ∙ sym sort)
-        (λ v. rw (one.value v, zero.value v) (choice-of-one (term_value ops v c.0) (truth-below ops v c.0
-            fits.sorts.0)))
+        (λ v. rw (one.value v, zero.value v) (choice-of-one (term_value ops v c.0)
+        (truth-below ops v c.0 fits.sorts.0)))
 
 pub not_not : (ops : List Op) (a x : TermId) → Fits ops (Not a) → AreTerms ops → slice_get ops a.0 ≡ Some (Not x)
     → IsSame ops (Not a) x

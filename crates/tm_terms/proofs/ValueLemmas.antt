@@ -15,8 +15,8 @@ use Rattle.tm_terms.specs.Terms.{is_free, free_count, term_sort, term_value, op_
 use Rattle.tm_terms.specs.BankView.{AreSorts}
 use Rattle.tm_terms.specs.Listed.{listed_sort, IsOnListed, AreValues}
 use Rattle.tm_terms.proofs.BankLemmas.{below-more}
-use Rattle.tm_terms.proofs.TermLemmas.{sort-append, value-append, sort-take, value-take, sort-push_last}
-use Rattle.tm_terms.proofs.TermLemmas.{value-push_last, value-below}
+use Rattle.tm_terms.proofs.TermLemmas.{sort-append, value-append, sort-take}
+use Rattle.tm_terms.proofs.TermLemmas.{value-take, sort-push_last, value-push_last, value-below}
 use Rattle.tm_terms.proofs.TermLemmas.{first-same, second-same, third-same, number_by-same, free_count-append}
 
 module _ (ops : List Op) (k : ℕ) (op : Op) (e : slice_get ops k ≡ Some op) where
@@ -49,8 +49,8 @@ module _ (ops : List Op) (k : ℕ) (op : Op) (e : slice_get ops k ≡ Some op) w
   pub value-at : (v : List ℕ) → term_value ops v k ≡ op_value (take k ops) v op
   value-at v =
       let h : k < length (take k ops ++ op ∷ []) = omega (arith, front-length, length-append (take k ops) (op ∷ [])) in
-      ap (λ (xs : List Op). term_value xs v k) (sym parts) ∙ value-append (take k ops ++ op ∷ []) (drop (k + 1) ops)
-          v k h
+      ap (λ (xs : List Op). term_value xs v k) (sym parts) ∙ value-append (take k ops ++ op ∷ [])
+      (drop (k + 1) ops) v k h
       ∙ ap (term_value (take k ops ++ op ∷ []) v) (sym front-length) ∙ value-push_last (take k ops) op v
 
 -- how many are free is no more than how many there are
@@ -71,8 +71,8 @@ values-next ops v k numbers number old e = record {
 }
 
 module _ (ops : List Op) (v : List ℕ) (k : ℕ) (op : Op) (sorts : List Sort) (numbers : List ℕ)
-    (terms : AreTerms ops) (sorted : AreSorts ops sorts) (e : slice_get ops k ≡ Some op) (old : AreValues ops v k
-        numbers) where
+    (terms : AreTerms ops) (sorted : AreSorts ops sorts) (e : slice_get ops k ≡ Some op)
+    (old : AreValues ops v k numbers) where
   listed : (j : ℕ) → j < k → listed_sort sorts j ≡ term_sort ops j
   listed j h =
       let w = slice_get_within ops k op e in
@@ -98,9 +98,9 @@ module _ (ops : List Op) (v : List ℕ) (k : ℕ) (op : Op) (sorts : List Sort) 
     fit = rw (first-same Truth (length (take k ops)) (listed_sort sorts) (term_sort (take k ops)) listed-front
         (operands_of op) below)
         (rw (second-same Truth (length (take k ops)) (listed_sort sorts) (term_sort (take k ops)) listed-front
-            (operands_of op) below)
+        (operands_of op) below)
         (rw (third-same Truth (length (take k ops)) (listed_sort sorts) (term_sort (take k ops)) listed-front
-            (operands_of op) below)
+        (operands_of op) below)
         (terms k op e).sorts));
     words = λ j h.
         rw (old.each j (omega (arith, old.even)), listed j (omega (arith, old.even))) (value-below ops v j);

@@ -8,7 +8,7 @@ use Rattle.cf_bodies.proofs.bodies.judge_bodies.Goals as goal
 pub judge_codes-requires-clause-fit : goal.judge_codes-requires-clause-fit
 judge_codes-requires-clause-fit c =
     rw (c.as_slice-2.ensures, c.in_ok-codes.ensures) (codes_fit (file_of c.args.structure.now) c.requires.parts
-        c.requires.fits)
+    c.requires.fits)
 
 pub returns-clause-found : goal.returns-clause-found
 returns-clause-found c =

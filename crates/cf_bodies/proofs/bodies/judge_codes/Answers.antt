@@ -15,7 +15,7 @@ returns-in_err-judge_code c =
     let l = c.loop-code in
     rw (p.1, p.2)
     (stops c.args.pool.now c.args.codes.now l.code-index l.bodies c.code-item.result c.loop-code-test.true
-        c.code-item.is
+    c.code-item.is
     l.invariant c.in_err-judge_code.field-0.0 c.in_err-judge_code.ensures)
 
 pub loop-code-preserved : goal.loop-code-preserved

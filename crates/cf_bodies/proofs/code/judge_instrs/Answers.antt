@@ -10,9 +10,9 @@ fault_at-requires c =
     let w = c.in_ok-code.ensures in
     let u = rw c.as_slice.ensures at c.in-Some.ensures in
     let lt = unmet_inside c.one_size.ensures c.one_beginning.ensures c.no_code.ensures c.one_fault.ensures
-        c.args.pool.now
+    c.args.pool.now
     c.args.bytes.now c.requires.short c.in_ok-code.field-0.code w.begins c.in_ok-code.field-0.end w.end c.in-Some.pc
-        u in
+    u in
     omega (arith, lt, c.requires.fits)
 
 pub returns-in-Some : goal.returns-in-Some

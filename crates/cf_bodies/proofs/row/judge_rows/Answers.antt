@@ -23,7 +23,7 @@ returns-then-not-is_row_of c pool =
     let x = row_at rows l.row-index in
     let is = get_or_default rows l.row-index _ x c.loop-row-test.true in
     let starts : c.as_slice.result.now ≡ pcs c.args.code.now = c.as_slice.ensures.value ∙
-        c.in_ok-starts.ensures.value in
+    c.in_ok-starts.ensures.value in
     let bad = λ (good : IsRowOf (pcs c.args.code.now) (length c.args.bytes.now) x). false≢true
     (sym c.if-not-is_row_of.true
     ∙ c.is_row_of.ensures.1 (subst (λ (s : List ℕ). IsRowOf s (length c.args.bytes.now) x) (sym starts) good)) in
@@ -51,12 +51,12 @@ loop-row-preserved c =
     let x = row_at rows l.row-index in
     let is = get_or_default rows l.row-index _ x c.loop-row-test.true in
     let starts : c.as_slice.result.now ≡ pcs c.args.code.now = c.as_slice.ensures.value ∙
-        c.in_ok-starts.ensures.value in
+    c.in_ok-starts.ensures.value in
     let good = subst (λ (s : List ℕ). IsRowOf s (length c.args.bytes.now) x) starts
     (c.is_row_of.ensures.0 c.if-not-is_row_of.false) in
     one_more c.args.bytes.now c.args.start rows l.row-index l.place x c.loop-row-test.true is l.invariant
     (λ pool. row_passes c.one_code.ensures pool c.args.bytes.now c.requires.short c.args.code.now c.requires.code
-        l.place
+    l.place
     x good)
 
 pub returns : goal.returns

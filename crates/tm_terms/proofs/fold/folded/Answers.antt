@@ -11,8 +11,11 @@ pub number_over-requires : goal.number_over-requires
 number_over-requires c =
     let given = rw c.operands.ensures at c.in-Some-given_by.ensures.some in
     record {
-      sorts = (third_of Truth (term_sort c.args.bank.now) (operands_of c.args.op), rw (given.s, given.t)
-          c.requires.fits.sorts);
+      sorts = (
+        third_of Truth (term_sort c.args.bank.now) (operands_of c.args.op),
+        rw (given.s, given.t)
+            c.requires.fits.sorts,
+      );
       second = given-below c.args.bank.now (operands_of c.args.op) c.in-Some-given_by.given given;
     }
 

@@ -9,12 +9,12 @@ pub returns-in-And : goal.returns-in-And
 returns-in-And c =
     let same : c.in-And.x ≡ c.args.g = search rules in
     subst (λ (x : TermId). IsBoth c.args.bank.now c.args.a x c.in-And.y) same
-    (both_parts c.args.bank.now c.laws.ensures.terms c.args.a c.in-And.x c.in-And.y (c.op.ensures ∙ ap Some
-        c.in-And.is))
+    (both_parts c.args.bank.now c.laws.ensures.terms c.args.a c.in-And.x c.in-And.y
+    (c.op.ensures ∙ ap Some c.in-And.is))
 
 pub returns-in-And-2 : goal.returns-in-And-2
 returns-in-And-2 c =
     let same : c.in-And-2.y ≡ c.args.g = search rules in
     subst (λ (y : TermId). IsBoth c.args.bank.now c.args.a y c.in-And-2.x) same
-    (parts_both c.args.bank.now c.laws.ensures.terms c.args.a c.in-And-2.x c.in-And-2.y (c.op.ensures ∙ ap Some
-        c.in-And-2.is))
+    (parts_both c.args.bank.now c.laws.ensures.terms c.args.a c.in-And-2.x c.in-And-2.y
+    (c.op.ensures ∙ ap Some c.in-And-2.is))

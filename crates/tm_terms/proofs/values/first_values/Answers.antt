@@ -22,7 +22,7 @@ number_on-number-requires c =
     let within : c.loop-k.k < length c.args.ops.now = omega arith in
     rw c.as_slice.ensures
     (on-listed c.args.ops.now c.args.v.now c.loop-k.k _ c.args.sorts.now c.loop-k.numbers c.requires.terms
-        c.requires.sorts
+    c.requires.sorts
     (slice_get-get_or c.args.ops.now c.loop-k.k (Free Truth) within) c.loop-k.invariant.values)
 
 pub overflow_add-inputs : goal.overflow_add-inputs
@@ -36,17 +36,17 @@ pub loop-k-preserved : goal.loop-k-preserved
 loop-k-preserved c =
     let within : c.loop-k.k < length c.args.ops.now = omega arith in
     let op = get_or c.args.ops.now c.loop-k.k (Free Truth) in
-    let e : slice_get c.args.ops.now c.loop-k.k ≡ Some op = slice_get-get_or c.args.ops.now c.loop-k.k (Free Truth)
-        within in
+    let e : slice_get c.args.ops.now c.loop-k.k ≡ Some op = slice_get-get_or c.args.ops.now c.loop-k.k
+    (Free Truth) within in
     let number = rw (c.as_slice.ensures, c.input_at-input.ensures, c.loop-k.invariant.inputs) at
-        c.number_on-number.ensures in
+    c.number_on-number.ensures in
     let next = frees-next c.args.ops.now c.loop-k.k op e in
     record {
       values = rw c.in_ok-add.ensures.ok
           (values-next c.args.ops.now c.args.v.now c.loop-k.k c.loop-k.numbers c.number_on-number.result
-              c.loop-k.invariant.values
+          c.loop-k.invariant.values
           (number ∙ number-listed c.args.ops.now c.args.v.now c.loop-k.k op c.args.sorts.now c.loop-k.numbers
-              c.requires.terms
+          c.requires.terms
           c.requires.sorts e c.loop-k.invariant.values));
       inputs = elim c.if-is_free.branch [
         | then-is_free w ↦

@@ -8,8 +8,8 @@ use Rattle.tm_terms.proofs.bank.Bank.add_free.Goals as goal
 pub invariant_of-self-2 : goal.invariant_of-self-2
 invariant_of-self-2 c =
     rw (c.in_ok-push_both.ensures.ops, c.in_ok-push_both.ensures.sorts)
-    (bank-push c.self.inside.ops (Free c.args.sort) c.self.inside.sorts c.self.inside.places c.self.inside.places
-        c.self.invariant
+    (bank-push c.self.inside.ops (Free c.args.sort) c.self.inside.sorts c.self.inside.places
+    c.self.inside.places c.self.invariant
     (record { below = tt; sorts = tt }) refl tt
     (places-push_free c.self.inside.ops (Free c.args.sort) c.self.inside.places refl c.self.invariant.placed))
 

@@ -29,7 +29,7 @@ invariant_of-self-in-Ok c =
     let placed = places-push ops c.args.op places c.put_at.new.places put absent c.self.invariant.placed in
     rw (c.in_ok-push_both.ensures.ops, c.in_ok-push_both.ensures.sorts, sort)
     (bank-push ops c.args.op c.self.inside.sorts places c.put_at.new.places c.self.invariant fits folded
-        c.requires.reduced placed)
+    c.requires.reduced placed)
 
 pub invariant_of-self-in-Err : goal.invariant_of-self-in-Err
 invariant_of-self-in-Err c =
@@ -52,5 +52,5 @@ returns-in-Ok-clause-made c of r kept =
     let place : c.length-count.result ≡ length old = rw (← c.self.view_is) c.length-count.ensures in
     rw more
     (made-by old (old ++ c.args.op ∷ []) of c.args.op (record { 0 = c.length-count.result }) r kept
-    (terms-push old c.args.op terms c.requires.fits) (inr refl) (slice_get-push_last old c.args.op
-        c.length-count.result place))
+    (terms-push old c.args.op terms c.requires.fits) (inr refl)
+    (slice_get-push_last old c.args.op c.length-count.result place))
