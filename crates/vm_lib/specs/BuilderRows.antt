@@ -7,14 +7,15 @@ use Rattle.vm_world.specs.declared.object.Object.{Object}
 use Rattle.vm_lib.specs.declared.plan.Effect.{Effect}
 use Rattle.vm_lib.specs.declared.plan.Effect.TheVariants.{Stuck}
 use Rattle.vm_lib.specs.declared.plan.Plan.{Plan}
+use Rattle.vm_lib.specs.declared.plan.Plan.TheVariants.{Puts}
 use Rattle.vm_lib.specs.Operands.{string_of, builder_of, on, plan_on}
 use Rattle.vm_lib.specs.Plans.{made, filled}
 use Rattle.vm_lib.specs.Values.{place_of, low_unit, boolean_text, gives_length}
 use Rattle.vm_lib.specs.StringRows.{unit_at}
 
 -- an empty builder, and one of a text (`<init>:()V`, `<init>:(String)V`)
-abbrev pub init_row : List Object → ℕ → Value → Plan
-init_row heap bound builder = plan_on (builder_of heap builder) (λ builder. filled bound builder.0 [] None)
+abbrev pub init_row : List Object → Value → Plan
+init_row heap builder = plan_on (builder_of heap builder) (λ builder. Puts builder.0 [] None)
 
 abbrev pub init_text_row : List Object → ℕ → Value → Value → Plan
 init_text_row heap bound builder text =

@@ -13,11 +13,11 @@ use std::alloc::Global;
 use vm_world::Heap;
 
 /// `<init>:()V`
-pub fn init(heap: &Heap, alloc: Global, bound: u8, builder: Value) -> Plan
-    ensures { result ≡ init_row heap.now bound builder }
+pub fn init(heap: &Heap, alloc: Global, builder: Value) -> Plan
+    ensures { result ≡ init_row heap.now builder }
 {
     match builder_of(heap, builder) {
-        Ok((number, _)) => filled(number, Text::new(alloc), None, bound),
+        Ok((number, _)) => Plan::Puts(number, Text::new(alloc), None),
         Err(effect) => Plan::Has(effect),
     }
 }

@@ -142,7 +142,7 @@ fn builder_plan<R: Abort + AllocGlobal>(
             let text = made(rt, heap, TextKind::Str, operand);
             init_text(heap, alloc, BOUND, builder, text)
         }
-        _ => Ok(init(heap, alloc, BOUND, builder)),
+        _ => Ok(init(heap, alloc, builder)),
     }
     .expect(rt, "memory")
 }
