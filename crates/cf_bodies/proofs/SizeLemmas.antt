@@ -54,3 +54,11 @@ methods_fit file =
       length-append (flat_map member_text c.fields) methods,
       length-append (flat_map member_text c.methods) last,
     )
+
+-- so do the parts in front of them, by the sizes of these
+pub front_fits : (file : RawFile) (entries count fields bound : ℕ) → entries ≡ length (flat_map entry_text file.pool)
+    → count ≡ length file.class.interfaces
+    → fields ≡ length (flat_map member_text file.class.fields)
+    → length (file_text file) < bound
+    → 22 + entries + 2 * count + fields < bound
+front_fits file entries count fields bound e f g lt = omega (arith, methods_at file, methods_fit file, e, f, g, lt)
