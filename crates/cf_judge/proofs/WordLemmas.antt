@@ -103,6 +103,17 @@ module _ (law : FormsDecided) (pool : List PoolEntry) where
           (λ h s. h.2 (subst (Spell form) (sym (one_text i h.0 t.0 h.1 t.1)) s)) (neither _ (spell law form t.0))
       by_text (inr none) = inr (λ h. none (h.0, h.1))
 
+  -- a text of the form stands there, or some word says what is wrong
+  pub form_or_word : (form : Form) (i : ℕ)
+      → HasForm pool form i ⊎ ((what : What) × IsWrongIndex pool (wanted.Formed form) i what)
+  form_or_word form i = elim (text_at i) [
+    | inl t ↦ elim (spell law form t.0) [
+      | inl s ↦ inl (t.0, t.1, s)
+      | inr not_spelled ↦ inr (word_of form, inr (refl, (t.0, t.1, not_spelled)))
+    ]
+    | inr none ↦ inr (words.BadIndex, inl (refl, λ units at. none (units, at)))
+  ]
+
   pub plain_class : (i : ℕ) → Decided (HasPlainClass pool i)
   plain_class i = by_class (class_of (slice_get pool i))
     where

@@ -1,5 +1,5 @@
 // Laws of the definitions.
-ghost use Rattle.cf_judge.specs.Laws.{OneJudgement, PlainClassDecided, OneFirst};
+ghost use Rattle.cf_judge.specs.Laws.{OneJudgement, PlainClassDecided, OneFirst, FormDecided, OneName};
 
 use jv_base::forms_decided;
 
@@ -20,4 +20,16 @@ pub fn plain_class_decided()
 /// Of two faults each is not behind the other only where they are the same.
 pub fn one_first()
     ensures { OneFirst }
+{}
+
+/// At an index there is a text of the form, or some word says what is wrong.
+pub fn form_decided()
+    ensures { FormDecided }
+{
+    forms_decided();
+}
+
+/// Units spell one name at most.
+pub fn one_name()
+    ensures { OneName }
 {}

@@ -15,7 +15,7 @@ mod text;
 pub use class_file::judge;
 pub use form::Form;
 pub use index::{Wanted, wrong_index};
-pub use laws::{one_first, one_judgement, plain_class_decided};
+pub use laws::{form_decided, one_first, one_judgement, one_name, plain_class_decided};
 pub use member::MemberKind;
 pub use size::entry_size;
 pub use text::{Forms, Text};
