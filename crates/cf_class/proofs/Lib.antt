@@ -1,0 +1,12 @@
+pub mod ListLemmas
+pub mod BodiesLemmas
+pub mod LoopLemmas
+pub mod NameLemmas
+pub mod CodesLemmas
+pub mod KeptLemmas
+pub mod ContentLemmas
+pub mod UniqueLemmas
+pub mod RefusalLemmas
+pub mod DecodedLemmas
+pub mod ShortLemmas
+pub mod LawLemmas

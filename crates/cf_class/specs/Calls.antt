@@ -1,0 +1,2 @@
+-- What private functions ask for.
+pub mod Contents
