@@ -1,12 +1,11 @@
 -- The laws that callers cite.
-use Rattle.std.proofs.Common.{◌≡◌, ℕ, ◌<◌, ◌≤◌, List, [], ◌++◌, length}
-use Rattle.std.proofs.Common.{take, Some, refl, sym, ap, ◌∙◌, arith, append_assoc}
-use Rattle.std.specs.Prelude.{slice_get}
+use Rattle.std.proofs.Common.{ℕ, ◌<◌, ◌≤◌, List, [], ◌++◌, length}
+use Rattle.std.proofs.Common.{take, sym, ap, ◌∙◌, arith, append_assoc}
 use Rattle.std.proofs.lemmas.List.{append-nil, length-append, length-take}
 use Rattle.tm_terms.specs.declared.sort.Sort.TheVariants.{Bool as Truth}
 use Rattle.tm_terms.specs.declared.op.Op.{Op}
 use Rattle.tm_terms.specs.Operations.{operands_of}
-use Rattle.tm_terms.specs.Terms.{term_sort, term_value, AreTerms}
+use Rattle.tm_terms.specs.Terms.{term_sort}
 use Rattle.tm_terms.specs.Laws.{ContinuesItself, ContinuesThrough, SortKept, ValueKept, FitsKept}
 use Rattle.tm_terms.specs.Laws.{ValueBelow, FitsStands, SortStands, ValueStands, FreeValue}
 use Rattle.tm_terms.proofs.BankLemmas.{below-more}

@@ -1,5 +1,6 @@
 pub mod BankLemmas
 pub mod BitRules
+pub mod ChainRules
 pub mod FoldLemmas
 pub mod GuardRules
 pub mod KeyLemmas

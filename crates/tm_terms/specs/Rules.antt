@@ -77,3 +77,16 @@ pub record IsSplit (ops : List Op) (a b g : TermId) : Type 0 where
   pub within : g.0 < length ops
   pub sort : term_sort ops g.0 ≡ Truth
   pub value : (v : List ℕ) → max (term_value ops v a.0) (term_value ops v b.0) ≡ term_value ops v g.0
+
+-- a term has the value of another and a number more
+pub record IsPlus (ops : List Op) (a x : TermId) (c : ℕ) : Type 0 where
+  pub within : x.0 < length ops
+  pub sort : term_sort ops x.0 ≡ term_sort ops a.0
+  pub value : (v : List ℕ) → term_value ops v a.0 ≡ (term_value ops v x.0 + c) % 2 ^ width_of (term_sort ops x.0)
+
+-- an operation of the sort of a term has its value and a number more
+pub record IsMoreBy (ops : List Op) (op : Op) (x : TermId) (k : ℕ) : Type 0 where
+  pub within : x.0 < length ops
+  pub sort : term_sort ops x.0 ≡ op_sort ops op
+  pub number : k < 2 ^ width_of (term_sort ops x.0)
+  pub value : (v : List ℕ) → op_value ops v op ≡ (term_value ops v x.0 + k) % 2 ^ width_of (term_sort ops x.0)

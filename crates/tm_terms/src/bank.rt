@@ -1,7 +1,8 @@
 // A bank of terms.
-ghost use Rattle.std.specs.Prelude.{◌≡◌, ◌<◌, ◌+◌, [], ◌∷◌, ◌++◌, ℕ, true, false, length, slice_get, Some, None, IfOk, OnOk, IfSome, IfNone, OnErr, ◌⊎◌};
+ghost use Rattle.std.specs.Prelude.{◌≡◌, ◌<◌, ◌+◌, ◌^◌, [], ◌∷◌, ◌++◌, ℕ, true, false, length, slice_get, Some, None, IfOk, OnOk, IfSome, IfNone, OnErr, ◌⊎◌};
 ghost use Rattle.tm_terms.specs.declared.op.Op.TheVariants.{Free};
 
+use crate::chain::more_by;
 use crate::fold::{simplified, sort_of};
 use crate::op::{Op, TermId};
 use crate::places::{copied, place_of, put_at};
@@ -56,7 +57,8 @@ impl Bank {
     ghost use Rattle.tm_terms.specs.Operations.{operands_of};
     ghost use Rattle.tm_terms.specs.Terms.{term_sort, term_value, op_sort, op_value, Fits, Continues, is_free, free_count, AreTerms};
     ghost use Rattle.tm_terms.specs.Sharing.{on_constants, IsReduced, AreShared, AreFolded, AreReduced};
-    ghost use Rattle.tm_terms.specs.Rules.{IsMade, Replaces};
+    ghost use Rattle.tm_terms.specs.Words.{width_of};
+    ghost use Rattle.tm_terms.specs.Rules.{IsMade, IsMoreBy, Replaces};
 
     /// A bank without terms. It takes no memory.
     pub fn new(alloc: Global) -> Bank
@@ -161,6 +163,34 @@ impl Bank {
         }
     }
 
+    // A term with the value of the operation, by the rules that make no term on the way.
+    fn simplest(&mut self, op: Op) -> Mem<TermId>
+        requires fits { Fits self.old op }
+        requires kept { is_free op ≡ false }
+        ensures made { IfOk result (λ id. IsMade self.old self.new op id) }
+        ensures keeps { Continues self.old self.new }
+    {
+        let op = rewritten(self, op);
+        if let Some(id) = same_term(self, op) {
+            return Ok(id);
+        }
+        let op = simplified(self, op);
+        let sort = sort_of(self, op);
+        self.share(op, sort)
+    }
+
+    // The sum of a term and a constant.
+    fn add_number(&mut self, x: TermId, number: u64) -> Mem<TermId>
+        requires within { x.0 < length self.old }
+        requires number { number < 2 ^ width_of (term_sort self.old x.0) }
+        ensures made { (of : Op) → IsMoreBy self.old of x number → is_free of ≡ false → IfOk result (λ id. IsMade self.old self.new of id) }
+        ensures keeps { Continues self.old self.new }
+    {
+        let sort = self.sort(x);
+        let constant = self.share(Op::Const(sort, number), sort)?;
+        self.simplest(Op::Add(x, constant))
+    }
+
     /// A term with the value of the operation: one that stands already, one that is simpler, or a new one. That of a free
     /// term is always new, and one whose operation stands already is the one that stands. For want of memory the bank may have
     /// further terms.
@@ -177,12 +207,11 @@ impl Bank {
         if let Some(place) = place_of(&self.places, op) {
             return Ok(TermId(place));
         }
-        let op = rewritten(self, op);
-        if let Some(id) = same_term(self, op) {
-            return Ok(id);
+        if let Op::Add(a, b) = op {
+            if let Some((x, number)) = more_by(self, a, b) {
+                return self.add_number(x, number);
+            }
         }
-        let op = simplified(self, op);
-        let sort = sort_of(self, op);
-        self.share(op, sort)
+        self.simplest(op)
     }
 }

@@ -3,6 +3,7 @@
 
 mod bank;
 mod bits;
+mod chain;
 mod constant;
 mod fits;
 mod fold;

@@ -8,7 +8,7 @@ use crate::op::Op;
 use crate::sort::Sort;
 use crate::words::{low, signed, wrapped};
 
-fn sum(sort: Sort, x: u64, y: u64) -> u64
+pub(crate) fn sum(sort: Sort, x: u64, y: u64) -> u64
     ensures { result ≡ (x + y) % 2 ^ width_of sort }
 {
     low(sort, x.wrapping_add(y))

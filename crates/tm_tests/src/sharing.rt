@@ -32,7 +32,7 @@ fn a_chain_of_sums_is_valued(rt: HostRuntime) {
 }
 
 // The terms t and f are true and false, x and y free truth values, n is Not x, p And x y, q Or x y, r And x (Not y); z, o and d are the
-// constants 0, 1 and 2 of 32 bits, i and j free words, a is Add i j. A row has an operation on them, and the term that it is.
+// constants 0, 1 and 2 of 32 bits, i and j free words, a is Add i j, b is Add i o, e is Add i d. A row has an operation on them, and the term that it is.
 const TRUTHS: &str = "
     Not n | x
     And x t | x
@@ -96,6 +96,8 @@ const WORDS: &str = "
     Below i i | f
     Add j i | a
     Add o o | d
+    Add b o | e
+    Add o b | e
     Sub o o | z
     If t i j | i
     If x j j | j
@@ -131,7 +133,18 @@ fn named<R: Abort + AllocGlobal>(rt: &R, bank: &mut Bank) -> Vec<(char, TermId)>
     let i = made(rt, bank, Op::Free(Sort::W32));
     let j = made(rt, bank, Op::Free(Sort::W32));
     let a = made(rt, bank, Op::Add(i, j));
-    for term in [('z', z), ('o', o), ('d', d), ('i', i), ('j', j), ('a', a)] {
+    let b = made(rt, bank, Op::Add(i, o));
+    let e = made(rt, bank, Op::Add(i, d));
+    for term in [
+        ('z', z),
+        ('o', o),
+        ('d', d),
+        ('i', i),
+        ('j', j),
+        ('a', a),
+        ('b', b),
+        ('e', e),
+    ] {
         terms.push(term).expect(rt, "memory");
     }
     terms
