@@ -15,7 +15,8 @@ use Rattle.cf_structure.specs.Spelled.{attribute_text, member_text, FitsBody, Fi
 use Rattle.cf_code.specs.declared.code.Placed.{Placed}
 use Rattle.cf_code.specs.Decoding.{IsCode}
 use Rattle.cf_bodies.specs.Places.{PlacedCode, methods_start, codes}
-use Rattle.cf_bodies.specs.Places.{body_codes as body_placed, attribute_codes as attribute_placed, method_codes as method_placed}
+use Rattle.cf_bodies.specs.Places.{body_codes as body_placed, attribute_codes as attribute_placed}
+use Rattle.cf_bodies.specs.Places.{method_codes as method_placed}
 use Rattle.cf_bodies.specs.Bodies.{AreBodies}
 use Rattle.cf_class.specs.Calls.Contents.{body_codes, attribute_codes, member_codes, class_codes, HaveBodies}
 use Rattle.cf_class.proofs.ListLemmas.{zip_viewed}
@@ -48,7 +49,8 @@ attribute_contents : (place : ℕ) (a : RawAttribute) → map content_of (attrib
 attribute_contents place a = body_contents (place + 6) a.body
 
 method_contents : (place : ℕ) (m : RawMember) → map content_of (method_placed place m) ≡ member_codes m
-method_contents place m = contents_at attribute_placed attribute_text attribute_codes attribute_contents [] (place + 8) m.attributes
+method_contents place m = contents_at attribute_placed attribute_text attribute_codes attribute_contents []
+    (place + 8) m.attributes
 
 -- ---- none but in methods
 
@@ -81,7 +83,8 @@ module _ (pool : List PoolEntry) where
   class_attribute a fits = other_kind _ a.body of_class fits.body
 
   field_codes : (m : RawMember) → FitsMember InField pool m → member_codes m ≡ []
-  field_codes m fits = none_of (FitsAttribute InField pool) attribute_codes field_attribute m.attributes fits.attributes.1
+  field_codes m fits = none_of (FitsAttribute InField pool) attribute_codes field_attribute m.attributes
+      fits.attributes.1
 
 module _ (file : RawFile) (fits : FitsFile file) where
   pub codes_are : map content_of (codes file) ≡ class_codes file.class
@@ -102,5 +105,6 @@ module _ (file : RawFile) (fits : FitsFile file) where
       subst (λ (cs : List RawCode). AllZip (λ c body. IsCode c.code body) cs bodies) codes_are
       (zip_viewed content_of (λ (c : RawCode) (body : List Placed). IsCode c.code body) (codes file) bodies are)
 
-  pub bodies_there : (bodies : List (List Placed)) → AreBodies (codes file) bodies → HaveBodies (class_codes file.class) bodies
+  pub bodies_there : (bodies : List (List Placed)) → AreBodies (codes file) bodies
+      → HaveBodies (class_codes file.class) bodies
   bodies_there bodies are = have_all (class_codes file.class) bodies (bodies_are bodies are)

@@ -83,7 +83,8 @@ module _ (pool : List PoolEntry) where
         → AreKept pool (each_demands (λ (earlier : List PoolEntry). entry_demands) entry_text [] place pool)
         → AllByRecursion IsEntryNamed pool
     entries_named place h =
-        each_kept (λ (earlier : List PoolEntry). entry_demands) entry_text IsEntryNamed (λ earlier. entry_named) [] place pool h
+        each_kept (λ (earlier : List PoolEntry). entry_demands) entry_text IsEntryNamed (λ earlier. entry_named) []
+        place pool h
 
     module _ (plain : PlainClassDecided) (entries : AllByRecursion IsEntryNamed pool) where
       -- a class stands there, and the entry has its name

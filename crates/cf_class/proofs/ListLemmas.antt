@@ -6,7 +6,8 @@ use Rattle.jv_list.proofs.MemberLemmas.{none_member, member_cases}
 
 module _ {A B : Type 0} (R : A → B → Type 0) where
   -- one more beside each other
-  pub zip_push : (xs : List A) (ys : List B) (x : A) (y : B) → AllZip R xs ys → R x y → AllZip R (xs ++ x ∷ []) (ys ++ y ∷ [])
+  pub zip_push : (xs : List A) (ys : List B) (x : A) (y : B) → AllZip R xs ys → R x y
+      → AllZip R (xs ++ x ∷ []) (ys ++ y ∷ [])
   zip_push [] [] x y h k = (k, tt)
   zip_push [] (b ∷ ys) x y h k = absurd h
   zip_push (a ∷ xs) [] x y h k = absurd h
@@ -83,11 +84,13 @@ module _ {A : Type 0} (P : A → Type 0) where
   all_flat F parts each (b ∷ bs) h =
       all_append P (parts b) (flat_map parts bs) (each b h.0) (all_flat F parts each bs h.1)
 
-  pub all_mapped : {B : Type 0} (f : B → A) (bs : List B) → AllByRecursion (λ b. P (f b)) bs → AllByRecursion P (map f bs)
+  pub all_mapped : {B : Type 0} (f : B → A) (bs : List B) → AllByRecursion (λ b. P (f b)) bs
+      → AllByRecursion P (map f bs)
   all_mapped f [] h = tt
   all_mapped f (b ∷ bs) h = (h.0, all_mapped f bs h.1)
 
-  pub all_unmapped : {B : Type 0} (f : B → A) (bs : List B) → AllByRecursion P (map f bs) → AllByRecursion (λ b. P (f b)) bs
+  pub all_unmapped : {B : Type 0} (f : B → A) (bs : List B) → AllByRecursion P (map f bs)
+      → AllByRecursion (λ b. P (f b)) bs
   all_unmapped f [] h = tt
   all_unmapped f (b ∷ bs) h = (h.0, all_unmapped f bs h.1)
 

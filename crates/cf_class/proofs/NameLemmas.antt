@@ -50,7 +50,8 @@ module _ (pool : List PoolEntry) (index : ℕ) (found : ℕ) (at : slice_get poo
         },
       )
 
-  pub class_is : (n : Named) → IsTextNamed pool found n → IsClassNamed pool index (record { index = index; name = n.name })
+  pub class_is : (n : Named) → IsTextNamed pool found n
+      → IsClassNamed pool index (record { index = index; name = n.name })
   class_is n h = record {
     index_is = refl;
     name_index = found;

@@ -22,7 +22,8 @@ module _ (bytes : List ℕ) where
     of_names (Malformed fault) h = inr (inl (record { file = file; structure = structure; fault_is = h }))
     of_names NoMemory h = tt
 
-    pub of_bodies : IsJudged file → (refusal : ClassFault) → Names (IsBodyFault file) refusal → Names (IsFaultOf bytes) refusal
+    pub of_bodies : IsJudged file → (refusal : ClassFault) → Names (IsBodyFault file) refusal
+        → Names (IsFaultOf bytes) refusal
     of_bodies judged (Malformed fault) h =
         inr (inr (record { file = file; structure = structure; judged = judged; fault_is = h }))
     of_bodies judged NoMemory h = tt

@@ -8,7 +8,8 @@ use Rattle.cf_structure.specs.declared.attribute.Holder.{Holder}
 use Rattle.cf_structure.specs.declared.attribute.Holder.TheVariants as holders
 use Rattle.cf_structure.specs.declared.attribute.BodyKind.{BodyKind}
 use Rattle.cf_structure.specs.declared.attribute.BodyKind.TheVariants as kinds
-use Rattle.cf_structure.specs.Raw.{RawSkipped, RawCode, RawBody, constant, code, skipped, RawAttribute, RawMember, RawFile}
+use Rattle.cf_structure.specs.Raw.{RawSkipped, RawCode, RawBody, constant, code, skipped, RawAttribute}
+use Rattle.cf_structure.specs.Raw.{RawMember, RawFile}
 use Rattle.cf_structure.specs.Spelled.{FitsSkipped, FitsCode, FitsBody, FitsAttribute, FitsMember, FitsFile}
 use Rattle.cf_judge.specs.Forms.{IsNameOf, HasText}
 use Rattle.cf_judge.specs.Laws.{OneName}
@@ -54,7 +55,8 @@ same_attribute a b n c =
     let parts : ◌≡◌ {A = Attribute} (record { name = a.name; body = a.body }) b = rw (n, c) refl in
     parts
 
-same_member : (a b : Member) → a.flags ≡ b.flags → a.name ≡ b.name → a.desc ≡ b.desc → a.attributes ≡ b.attributes → a ≡ b
+same_member : (a b : Member) → a.flags ≡ b.flags → a.name ≡ b.name → a.desc ≡ b.desc → a.attributes ≡ b.attributes
+    → a ≡ b
 same_member a b f n d x =
     let parts : ◌≡◌ {A = Member} (record {
       flags = a.flags;
@@ -85,7 +87,8 @@ module _ (pool : List PoolEntry) (name_law : OneName) where
 
   one_text : (index : ℕ) (a b : Named) → IsTextNamed pool index a → IsTextNamed pool index b → a ≡ b
   one_text index a b h k =
-      same_named a b (h.index_is ∙ sym k.index_is) (same_name index h.units k.units a.name b.name h.text k.text h.name k.name)
+      same_named a b (h.index_is ∙ sym k.index_is)
+      (same_name index h.units k.units a.name b.name h.text k.text h.name k.name)
 
   one_class : (index : ℕ) (a b : Named) → IsClassNamed pool index a → IsClassNamed pool index b → a ≡ b
   one_class index a b h k =
@@ -130,14 +133,16 @@ module _ (pool : List PoolEntry) (name_law : OneName) where
     one_body kinds.Code (code raw) (bodies.Skipped x) b fits h k = absurd h
 
     module _ (place : Holder) where
-      one_attribute : (raw : RawAttribute) (a b : Attribute) → FitsAttribute place pool raw → IsAttributeContent pool raw a
+      one_attribute : (raw : RawAttribute) (a b : Attribute) → FitsAttribute place pool raw
+          → IsAttributeContent pool raw a
           → IsAttributeContent pool raw b
           → a ≡ b
       one_attribute raw a b fits h k =
           same_attribute a b (one_text raw.name a.name b.name h.name k.name)
           (one_body _ raw.body a.body b.body fits.body h.body k.body)
 
-      pub one_attributes : (raw : List RawAttribute) (a b : List Attribute) → AllByRecursion (FitsAttribute place pool) raw
+      pub one_attributes : (raw : List RawAttribute) (a b : List Attribute)
+          → AllByRecursion (FitsAttribute place pool) raw
           → AllZip (IsAttributeContent pool) raw a → AllZip (IsAttributeContent pool) raw b
           → a ≡ b
       one_attributes = one_beside (IsAttributeContent pool) (FitsAttribute place pool) one_attribute
@@ -155,12 +160,14 @@ module _ (pool : List PoolEntry) (name_law : OneName) where
           → a ≡ b
       one_members = one_beside (IsMemberContent pool) (FitsMember place pool) one_member
 
-  pub one_interfaces : (raw : List ℕ) (a b : List Named) → AllZip (IsClassNamed pool) raw a → AllZip (IsClassNamed pool) raw b
+  pub one_interfaces : (raw : List ℕ) (a b : List Named) → AllZip (IsClassNamed pool) raw a
+      → AllZip (IsClassNamed pool) raw b
       → a ≡ b
   one_interfaces raw a b h k =
       one_beside (IsClassNamed pool) (λ n. Unit {0}) (λ x y z fit. one_class x y z) raw a b (all_unit raw) h k
 
-pub one_content : OneName → IsOneCode → (file : RawFile) → FitsFile file → (a b : ClassFile) → IsContent file a → IsContent file b
+pub one_content : OneName → IsOneCode → (file : RawFile) → FitsFile file → (a b : ClassFile) → IsContent file a
+    → IsContent file b
     → a ≡ b
 one_content name_law code_law file fits a b h k =
     let pool : List PoolEntry = file.pool in
@@ -170,8 +177,10 @@ one_content name_law code_law file fits a b h k =
     let entries = same_pool a.pool b.pool (h.entries ∙ sym k.entries) in
     let flags = h.flags ∙ sym k.flags in
     let this_class = one_class pool name_law class.this_class a.this_class b.this_class h.this_class k.this_class in
-    let super_class = one_class pool name_law class.super_class a.super_class b.super_class h.super_class k.super_class in
-    let interfaces = one_interfaces pool name_law class.interfaces a.interfaces b.interfaces h.interfaces k.interfaces in
+    let super_class = one_class pool name_law class.super_class a.super_class b.super_class h.super_class
+    k.super_class in
+    let interfaces = one_interfaces pool name_law class.interfaces a.interfaces b.interfaces h.interfaces
+    k.interfaces in
     let fields = one_members pool name_law code_law holders.InField class.fields a.fields b.fields fits.class.fields.1
     h.fields k.fields in
     let methods = one_members pool name_law code_law holders.InMethod class.methods a.methods b.methods

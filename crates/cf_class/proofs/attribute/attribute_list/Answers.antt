@@ -3,7 +3,8 @@ use Rattle.cf_structure.specs.Views.{attribute_of}
 use Rattle.cf_class.specs.declared.attribute.Attribute.{Attribute}
 use Rattle.cf_class.specs.Content.{IsAttributeContent}
 use Rattle.cf_class.specs.Calls.Contents.{attribute_codes}
-use Rattle.cf_class.proofs.LoopLemmas.{AreTaken, none_taken, content_there, bodies_there, taken_more, made_all, taken_left}
+use Rattle.cf_class.proofs.LoopLemmas.{AreTaken, none_taken, content_there, bodies_there, taken_more, made_all}
+use Rattle.cf_class.proofs.LoopLemmas.{taken_left}
 use Rattle.cf_class.proofs.attribute.attribute_list.Goals as goal
 
 pub loop-part-init : goal.loop-part-init

@@ -12,7 +12,8 @@ pub returns-clause-content : goal.returns-clause-content
 returns-clause-content c = record {
   max_stack = refl;
   max_locals = refl;
-  code = first_body (code_of c.args.part.now) c.args.bodies.now c.take-code.new.self c.take-code.result c.requires.bodies
+  code = first_body (code_of c.args.part.now) c.args.bodies.now c.take-code.new.self c.take-code.result
+      c.requires.bodies
       c.take-code.ensures;
   rows = c.in_ok-rows.ensures ∙ ap (λ (rs : List structure.Row). map row_of rs) c.as_slice.ensures;
   attributes = rw c.as_slice-2.ensures at c.in_ok-attributes.ensures;

@@ -3,7 +3,8 @@ use Rattle.cf_structure.specs.Views.{member_of}
 use Rattle.cf_class.specs.declared.member.Member.{Member}
 use Rattle.cf_class.specs.Content.{IsMemberContent}
 use Rattle.cf_class.specs.Calls.Contents.{member_codes}
-use Rattle.cf_class.proofs.LoopLemmas.{AreTaken, none_taken, content_there, bodies_there, taken_more, made_all, taken_left}
+use Rattle.cf_class.proofs.LoopLemmas.{AreTaken, none_taken, content_there, bodies_there, taken_more, made_all}
+use Rattle.cf_class.proofs.LoopLemmas.{taken_left}
 use Rattle.cf_class.proofs.member.member_list.Goals as goal
 
 pub loop-part-init : goal.loop-part-init
