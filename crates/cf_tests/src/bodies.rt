@@ -280,7 +280,7 @@ fn the_instructions_of_each_code_are_handed_back_in_file_order(rt: HostRuntime) 
 }
 
 /// As many rows as there can be, over a code of 65,535 bytes, the last of which is at fault or not.
-fn large<R: Abort + AllocGlobal>(rt: &R, last_end: u16) -> Vec<u8> {
+pub(crate) fn large<R: Abort + AllocGlobal>(rt: &R, last_end: u16) -> Vec<u8> {
     let mut code = vec![in rt.alloc(); 0; 65535].expect(rt, "memory");
     code[65534] = 0xb1;
     let mut table = Vec::new(rt.alloc());

@@ -3,7 +3,10 @@
 use crate::entries::repeated;
 use crate::structures::SMALLEST;
 use crate::tables::{bytes_of, four_of, number_of, rows, three_of};
-use cf_judge::{Form, Wanted, judge, one_first, one_judgement, plain_class_decided, wrong_index};
+use cf_judge::{
+    Form, Wanted, form_decided, judge, one_first, one_judgement, one_name, plain_class_decided,
+    wrong_index,
+};
 use cf_pool::What;
 use cf_structure::{ClassFault, read_structure};
 use std::process::Abort;
@@ -163,6 +166,8 @@ fn a_class_file_is_in_order_or_has_its_first_fault(rt: HostRuntime) {
     one_judgement();
     one_first();
     plain_class_decided();
+    form_decided();
+    one_name();
     for row in &rows(&rt, FILES) {
         let (count, more, class, wanted) = four_of(&rt, row);
         let mut bytes = front(&rt, number_of(&rt, count), &bytes_of(&rt, more));

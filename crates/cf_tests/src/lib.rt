@@ -6,6 +6,8 @@
 #[cfg(test)]
 mod bodies;
 #[cfg(test)]
+mod classes;
+#[cfg(test)]
 mod codes;
 #[cfg(test)]
 mod descriptors;
