@@ -37,13 +37,15 @@ const METHOD: &str = "0021 0002 0002 0000 0000 0001 0009 0003 0005 0001 0006";
 /// A file with one method. Its code is at place 164, and its rows are behind that and their count.
 fn with_code<R: Abort + AllocGlobal>(rt: &R, code: &[u8], table: &[u8]) -> Vec<u8> {
     let mut bytes = bytes_of(rt, FRONT);
-    let size = (12 + code.len() + table.len()) as u32;
-    let count = (table.len() / 8) as u16;
+    let code_size = u32::try_from(code.len()).expect(rt, "a length of four bytes");
+    let table_size = u32::try_from(table.len()).expect(rt, "a length of four bytes");
+    let size = code_size.saturating_add(table_size).saturating_add(12);
+    let count = u16::try_from(table.len() / 8).expect(rt, "a count of two bytes");
     for part in [
         bytes_of(rt, METHOD).as_slice(),
         &size.to_be_bytes(),
         &[0, 0, 0, 0],
-        &(code.len() as u32).to_be_bytes(),
+        &code_size.to_be_bytes(),
         code,
         &count.to_be_bytes(),
         table,

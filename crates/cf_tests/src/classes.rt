@@ -147,7 +147,8 @@ fn a_damaged_class_has_the_first_fault_of_the_first_pass(rt: HostRuntime) {
 #[test]
 fn a_class_of_65535_instructions_and_rows_is_read(rt: HostRuntime) {
     let class = read_class(rt.alloc(), &large(&rt, 65535)).expect(&rt, "a class");
-    let attribute = class.methods.at(0).attributes.at(0);
+    let method = class.methods.get(0).expect(&rt, "a method");
+    let attribute = method.attributes.get(0).expect(&rt, "an attribute");
     assert!(rt; attribute.name.name.as_str() == "Code");
     match &attribute.body {
         Body::Code(code) => {
