@@ -1,4 +1,4 @@
--- What stands in a part of a file, and the instructions of its Codes.
+-- What private functions ask for: that a part of a file has a content, and the instructions of its Codes.
 use Rattle.std.specs.Prelude.{List, [], ◌∷◌, ◌++◌}
 use Rattle.std.specs.List.{flat_map, AllZip}
 use Rattle.cf_structure.specs.Raw.{RawCode, RawBody, constant, code, skipped, RawAttribute, RawMember, RawClass}
@@ -11,7 +11,7 @@ use Rattle.cf_class.specs.declared.named.PoolTexts.{PoolTexts}
 abbrev pub AreNames : PoolTexts → Type 0
 AreNames names = AreTexts names.pool.now names.texts.now
 
--- something stands there
+-- a part of a file has a content, and parts have contents, one beside each other
 abbrev pub HasContent : {A B : Type 0} → (A → B → Type 0) → A → Type 0
 HasContent {B} Is raw = (x : B) × Is raw x
 
