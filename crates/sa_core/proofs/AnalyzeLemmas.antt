@@ -3,22 +3,29 @@ use Rattle.std.proofs.Common.{◌≡◌, ◌≢◌, ℕ, ◌+◌, ◌<◌, ◌�
 use Rattle.std.proofs.Common.{Contains, slice_get, refl, sym, ap, ◌∙◌, subst, inl, inr, arith, length-set}
 use Rattle.std.proofs.lemmas.Bool.{cases_lt, cases_eq}
 use Rattle.std.proofs.lemmas.List.Elements.{Contains-push, Contains-push_cases, Contains-append_left}
-use Rattle.std.proofs.lemmas.List.Elements.{Contains-append_right}
 use Rattle.jv_list.proofs.PlaceLemmas.{slice_get-set_same, slice_get-set_other}
-use Rattle.jv_list.proofs.MemberLemmas.{in_map, first_member, none_member}
+use Rattle.jv_list.proofs.MemberLemmas.{none_member}
 use Rattle.cn_clauses.specs.declared.lit.Lit.{Lit}
 use Rattle.cn_clauses.specs.Literals.{opposite_of}
 use Rattle.cn_clauses.specs.Laws.{OppositeTwice}
-use Rattle.cn_clauses.specs.Propagation.{IsForced, Started, Propagated, opposites_of, Rup}
+use Rattle.cn_clauses.specs.Propagation.{IsForced, Propagated}
 use Rattle.sa_core.specs.declared.analyze.Seen.{Seen}
-use Rattle.sa_core.specs.TrailView.{Stands}
-use Rattle.sa_core.specs.SolverView.{IsFalse, ByTrue, ByOpen, AreSettled, IsImplied}
-use Rattle.sa_core.specs.Analysis.{IsSeen, IsLower, Sees, GivesConflict, SomeSeen, IsLearnedClause}
+use Rattle.sa_core.specs.declared.step.Step.{Step}
+use Rattle.sa_core.specs.TrailView.{lits_of, Stands}
+use Rattle.sa_core.specs.SolverView.{IsFalse, ByTrue, ByOpen, AreSettled, IsImplied, IsJustifiedBy, AreJustified}
+use Rattle.sa_core.specs.Analysis.{IsSeen, Sees, GivesConflict, SomeSeen}
 use Rattle.sa_core.specs.Calls.Analyze.{SeesMore}
 use Rattle.jv_list.proofs.ElementLemmas.{at_contains, one_at}
 
+-- the reason of a step
+pub reason_at : (clauses : List (List Lit)) (steps : List Step) (place : ℕ) (step : Step) (reason : ℕ)
+    → AreJustified clauses steps → slice_get steps place ≡ Some step → step.reason ≡ Some reason
+    → IsImplied clauses (lits_of steps) place step.lit reason
+reason_at clauses steps place step reason justified is e =
+    subst (IsJustifiedBy clauses (lits_of steps) place step.lit) e (justified place step is)
+
 -- a place that was reached from behind
-at_last : (at place end : ℕ) → at < end → end ≡ place + 1 → place ≤ at → place ≡ at
+pub at_last : (at place end : ℕ) → at < end → end ≡ place + 1 → place ≤ at → place ≡ at
 at_last at place end lt e le = omega (arith, lt, e, le)
 
 module _ (clauses : List (List Lit)) (trail : List Lit) where
@@ -67,53 +74,6 @@ module _ (clauses : List (List Lit)) (trail : List Lit) where
             let s = implied.unit.others third within ne in
             forced s.place (opposite_of third) s.before (sees.seen third s.place within s.is) s.is))
       ])
-
-  -- the opposites of what was seen make the clause that is learned
-  module _ (twice : OppositeTwice) (mark place end : ℕ) (seen : List Bool) (lower : List Lit) (lit : Lit)
-      (last : end ≡ place + 1) (is : slice_get trail place ≡ Some lit) (kept : IsLower trail mark seen lower)
-      (none : SomeSeen seen mark place → ⊥) (gives : GivesConflict clauses trail seen end) where
-    started : (lits : List Lit) (other : Lit) → Contains lits (opposite_of other)
-        → IsForced clauses (opposites_of lits) other
-    started lits other has =
-        subst (IsForced clauses (opposites_of lits)) (twice other)
-        (Started (opposite_of (opposite_of other)) (in_map opposite_of lits (opposite_of other) has))
-
-    learned_rup : Rup clauses (opposite_of lit ∷ lower)
-    learned_rup =
-        gives (opposites_of (opposite_of lit ∷ lower)) (λ at other lt seen_at stands.
-        elim (cases_lt at place) [
-          | inl before ↦
-              elim (cases_lt at mark) [
-                | inl below ↦
-                    started (opposite_of lit ∷ lower) other
-                    (Contains-append_right (opposite_of lit ∷ []) lower (opposite_of other)
-                    (kept.kept at other below seen_at stands))
-                | inr later ↦ absurd (none (record { place = at; later = later; before = before; is = seen_at }))
-              ]
-          | inr le ↦
-              let same : lit ≡ other =
-              one_at trail at lit other (ap (slice_get trail) (sym (at_last at place end lt last le)) ∙ is) stands in
-              started (opposite_of lit ∷ lower) other
-              (subst (λ (l : Lit). Contains (opposite_of lit ∷ lower) (opposite_of l)) same
-              (first_member (opposite_of lit) lower))
-        ])
-
-    pub learned_clause : (lits : List Lit) → lits ≡ opposite_of lit ∷ lower → mark ≤ place
-        → IsLearnedClause clauses trail mark lits
-    learned_clause lits e later =
-        record {
-          lit = opposite_of lit;
-          lower = lower;
-          is = e;
-          learned =
-              record {
-                place = place;
-                later = later;
-                is = is ∙ ap (λ (l : Lit). Some l) (sym (twice lit));
-                opposed = kept.opposed;
-                rup = learned_rup;
-              };
-        }
 
   -- a clause that is false has a literal that became so at the mark or later
   pub some_first : (mark : ℕ) (lits : List Lit) (seen : List Bool)

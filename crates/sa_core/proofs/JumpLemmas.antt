@@ -23,7 +23,7 @@ pub settled_at : (clauses : List (List Lit)) (steps : List Step) (mark : ℕ) �
 settled_at clauses steps mark justified last =
     subst (IsJustifiedBy clauses (lits_of steps) mark last.step.lit) last.decided (justified mark last.step last.is)
 
-trail_within : (steps : List Step) (places : List (Option ℕ)) (variables : ℕ) → IsPlaced steps places
+pub trail_within : (steps : List Step) (places : List (Option ℕ)) (variables : ℕ) → IsPlaced steps places
     → length places ≡ 2 * variables → (place : ℕ) (lit : Lit) → slice_get (lits_of steps) place ≡ Some lit
     → variable_of lit < variables
 trail_within steps places variables was size place lit e =

@@ -7,7 +7,9 @@ pub mod JumpLemmas
 pub mod LearnLemmas
 pub mod LitLemmas
 pub mod LogLemmas
+pub mod MinimizeLemmas
 pub mod PropagateLemmas
+pub mod ReadyLemmas
 pub mod SearchLemmas
 pub mod SolveLemmas
 pub mod StoreLemmas

@@ -62,7 +62,7 @@ pub same_place : (steps : List Step) (places : List (Option ℕ)) (lit : Lit) (i
 same_place steps places lit i j was e f =
     same_Some i j (same_Some (Some i) (Some j) (sym (was.placed i lit e) ∙ was.placed j lit f))
 
-cut_length : (n : ℕ) (steps : List Step) → n ≤ length steps → length (take n steps) ≡ n
+pub cut_length : (n : ℕ) (steps : List Step) → n ≤ length steps → length (take n steps) ≡ n
 cut_length zero steps le = refl
 cut_length (suc n) [] le = absurd (omega (arith, le))
 cut_length (suc n) (s ∷ steps) le = let rest = cut_length n steps (omega (arith, le)) in omega (arith, rest)

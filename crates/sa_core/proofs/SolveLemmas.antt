@@ -2,6 +2,8 @@
 use Rattle.std.proofs.Common.{◌≡◌, ℕ, ◌+◌, ◌-◌, ◌*◌, ◌^◌, ◌<◌, ◌≤◌, Bool, true, max, cond, List, [], ◌∷◌, ◌++◌}
 use Rattle.std.proofs.Common.{length, map, Option, Some, Contains, refl, sym, ap, ◌∙◌, subst, inl, inr, arith}
 use Rattle.std.proofs.Common.{append_assoc, append-nil, add-zero, true≢false}
+use Rattle.std.proofs.Math.Nat.{suc-mul}
+use Rattle.std.proofs.Math.Numerals.{suc-eq-add-one}
 use Rattle.std.proofs.lemmas.Bool.{and_parts, and_from}
 use Rattle.std.proofs.lemmas.List.{map-append}
 use Rattle.std.proofs.lemmas.List.Sums.{sum_by_push}
@@ -181,10 +183,29 @@ one_spent budget left next old new (inl none) some e more = inl none
 one_spent budget left next old new (inr is) some e more = inr (omega (arith, is, some, e, more))
 
 -- the number of the trail rises, and stays below a bound
-pub falls : (n m : ℕ) (old new : Search) → m ≡ n → new.trail.variables ≡ m → reached old < reached new
+falls : (n m : ℕ) (old new : Search) → m ≡ n → new.trail.variables ≡ m → reached old < reached new
     → 3 ^ (2 * m) - reached new < 3 ^ (2 * n) - reached old
 falls n m old new same is rises =
     let below : reached new < 3 ^ (2 * new.trail.variables) = code_below (2 * new.trail.variables) new.trail.steps in
     let one : 3 ^ (2 * new.trail.variables) ≡ 3 ^ (2 * m) = ap (λ (k : ℕ). 3 ^ (2 * k)) is in
     let other : 3 ^ (2 * m) ≡ 3 ^ (2 * n) = ap (λ (k : ℕ). 3 ^ (2 * k)) same in
     omega (arith, below, one, other, rises)
+
+-- the measure of the loop: the restarts that are left, and before the next how far the number of the trail may rise
+pub falls_on : (before after n m : ℕ) (old new : Search) → after ≡ before → m ≡ n → new.trail.variables ≡ m
+    → reached old < reached new
+    → after * 3 ^ (2 * m) + (3 ^ (2 * m) - reached new) < before * 3 ^ (2 * n) + (3 ^ (2 * n) - reached old)
+falls_on before after n m old new keep same is rises =
+    let less = falls n m old new same is rises in
+    let e : after * 3 ^ (2 * m) ≡ before * 3 ^ (2 * n) =
+    ap (λ (k : ℕ). after * 3 ^ (2 * k)) same ∙ ap (λ (k : ℕ). k * 3 ^ (2 * n)) keep in
+    omega (arith, less, e)
+
+pub falls_back : (before after n : ℕ) (old new : Search) → after + 1 ≡ before → old.trail.variables ≡ n
+    → after * 3 ^ (2 * n) + (3 ^ (2 * n) - reached new) < before * 3 ^ (2 * n) + (3 ^ (2 * n) - reached old)
+falls_back before after n old new one is =
+    let below : reached old < 3 ^ (2 * old.trail.variables) = code_below (2 * old.trail.variables) old.trail.steps in
+    let size : 3 ^ (2 * old.trail.variables) ≡ 3 ^ (2 * n) = ap (λ (k : ℕ). 3 ^ (2 * k)) is in
+    let more : before * 3 ^ (2 * n) ≡ after * 3 ^ (2 * n) + 3 ^ (2 * n) =
+    ap (λ (k : ℕ). k * 3 ^ (2 * n)) (sym one ∙ sym (suc-eq-add-one after)) ∙ suc-mul after (3 ^ (2 * n)) in
+    omega (arith, below, size, more)

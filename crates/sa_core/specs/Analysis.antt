@@ -5,6 +5,7 @@ use Rattle.cn_clauses.specs.Literals.{opposite_of}
 use Rattle.cn_clauses.specs.Propagation.{IsForced, IsConflict, Rup}
 use Rattle.sa_core.specs.declared.step.Step.{Step}
 use Rattle.sa_core.specs.TrailView.{Stands}
+use Rattle.sa_core.specs.SolverView.{IsImplied}
 
 -- the place was seen
 abbrev pub IsSeen : List Bool → ℕ → Type 0
@@ -70,3 +71,26 @@ pub record IsLearnedClause (clauses : List (List Lit)) (trail : List Lit) (mark 
 -- each of the literals is false somewhere
 abbrev pub AreFalseBefore : List Lit → List Lit → Type 0
 AreFalseBefore trail lits = (lit : Lit) → Contains lits lit → Stands trail (length trail) (opposite_of lit)
+
+-- the place at which a literal became false was seen
+abbrev pub IsSeenFalse : List Lit → List Bool → Lit → Type 0
+IsSeenFalse trail seen lit = (place : ℕ) → slice_get trail place ≡ Some (opposite_of lit) → IsSeen seen place
+
+-- so were those of a clause's literals, but for one
+abbrev pub AreSeenFalse : List Lit → List Bool → List Lit → Lit → Type 0
+AreSeenFalse trail seen lits but = (lit : Lit) → Contains lits lit → (lit ≡ but → ⊥) → IsSeenFalse trail seen lit
+
+-- the literal was forced by a clause whose other literals became false at places that were seen
+pub record IsSpare (clauses : List (List Lit)) (trail : List Lit) (seen : List Bool) (lit : Lit) : Type 0 where
+  pub place : ℕ
+  pub is : slice_get trail place ≡ Some lit
+  pub reason : ℕ
+  pub implied : IsImplied clauses trail place lit reason
+  pub others : AreSeenFalse trail seen implied.lits lit
+
+-- a literal, and behind it those of the others that are not spare
+pub record IsMinimized (clauses : List (List Lit)) (trail : List Lit) (seen : List Bool) (lit : Lit) (lower : List Lit) (lits : List Lit) : Type 0 where
+  pub rest : List Lit
+  pub is : lits ≡ lit ∷ rest
+  pub some : (other : Lit) → Contains rest other → Contains lower other
+  pub left : (other : Lit) → Contains lower other → Contains rest other ⊎ IsSpare clauses trail seen (opposite_of other)

@@ -7,6 +7,8 @@ ghost use Rattle.sa_core.specs.TrailView.{lits_of};
 ghost use Rattle.sa_core.specs.SolverView.{AreWithin, IsWithin, AreJustified, IsFalseAt, IsLastDecision};
 ghost use Rattle.sa_core.specs.Analysis.{IsSeen, SomeSeen, IsLearnedClause};
 
+use crate::minimize::minimized;
+use crate::order::Order;
 use crate::store::Store;
 use crate::trail::Trail;
 use cn_clauses::{Lit, literal_laws};
@@ -51,8 +53,8 @@ impl Seen {
         })
     }
 
-    // Sees the opposites of these literals.
-    fn see(&mut self, trail: &Trail, lits: &[Lit], mark: usize) -> Mem<()>
+    // Sees the opposites of these literals, and raises the variables of those that are seen for the first time.
+    fn see(&mut self, trail: &Trail, lits: &[Lit], mark: usize, order: &mut Order) -> Mem<()>
         requires length { length self.old.places ≡ length trail.now.steps }
         requires within { IsWithin trail.now.variables lits.now }
         ensures { IfOk result (λ done. SeesMore (lits_of trail.now.steps) mark self.old self.new lits.now) }
@@ -64,6 +66,7 @@ impl Seen {
                 Some(place) => {
                     if !*self.places.at(place) {
                         self.places.set(place, true);
+                        order.raise(*lit);
                         if place < mark {
                             self.lower.add(*lit)?;
                         }
@@ -83,6 +86,7 @@ pub fn analyze(
     trail: &Trail,
     conflict: usize,
     mark: usize,
+    order: &mut Order,
 ) -> Mem<List<Lit>>
     requires within { AreWithin trail.now.variables store.now }
     requires justified { AreJustified store.now trail.now.steps }
@@ -92,30 +96,27 @@ pub fn analyze(
 {
     literal_laws();
     let mut seen = Seen::new(alloc, trail.steps.length())?;
-    seen.see(trail, store.at(conflict), mark)?;
+    seen.see(trail, store.at(conflict), mark, order)?;
     let mut end = trail.steps.length();
     while end > mark {
         let place = end - 1;
         if *seen.places.at(place) {
             let step = *trail.steps.at(place);
             if !some_seen(seen.places.as_slice(), mark, place) {
-                return learned(alloc, step.lit, &seen.lower);
+                return minimized(
+                    alloc,
+                    store,
+                    trail,
+                    &seen.places,
+                    step.lit.opposite(),
+                    seen.lower.as_slice(),
+                );
             }
             if let Some(reason) = step.reason {
-                seen.see(trail, store.at(reason), mark)?;
+                seen.see(trail, store.at(reason), mark, order)?;
             }
         }
         end = place;
     }
     unreachable!()
-}
-
-// The opposite of a literal, and the others behind it.
-fn learned(alloc: Global, lit: Lit, lower: &List<Lit>) -> Mem<List<Lit>>
-    ensures { IfOk result (λ lits. lits ≡ opposite_of lit ∷ lower.now) }
-{
-    let mut lits = List::new(alloc);
-    lits.add(lit.opposite())?;
-    lits.extend(lower.as_slice())?;
-    Ok(lits)
 }

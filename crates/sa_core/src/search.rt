@@ -10,8 +10,10 @@ ghost use Rattle.sa_core.specs.Analysis.{IsLearnedClause};
 ghost use Rattle.sa_core.specs.SearchView.{clauses_of, trail_of, IsStored, IsReady, Stores, IsLoaded, GoesOn};
 
 use crate::backtrack::{first_decision, height};
+use crate::decide::last_decision;
 use crate::log::LogEntry;
 use crate::occurrences::Occurrences;
+use crate::order::Order;
 use crate::propagate::{propagate, visit_each};
 use crate::step::Step;
 use crate::store::Store;
@@ -85,7 +87,7 @@ impl Search {
     }
 
     /// Takes a learned clause in: the trail is cut to where the clause forces its first literal, which is made true.
-    pub fn learn(&mut self, lits: &[Lit], mark: usize) -> Mem<Option<usize>>
+    pub fn learn(&mut self, lits: &[Lit], mark: usize, order: &mut Order) -> Mem<Option<usize>>
         requires ready { IsReady self.old }
         requires mark { IsLastDecision self.old.trail.steps mark }
         requires learned { IsLearnedClause (clauses_of self.old) (trail_of self.old) mark lits.now }
@@ -96,6 +98,7 @@ impl Search {
         let limit = height(&self.trail, &lits[1..]);
         let from = first_decision(&self.trail, limit, mark);
         let place = self.store.length();
+        order.reopen(&self.trail, from)?;
         self.trail.cut(from);
         self.store_clause(lits)?;
         self.trail.push(Step {
@@ -103,6 +106,23 @@ impl Search {
             reason: Some(place),
         })?;
         propagate(&self.store, &self.occurrences, &mut self.trail, from)
+    }
+
+    /// Takes all decisions back.
+    pub fn restart(&mut self, order: &mut Order) -> Mem<()>
+        requires ready { IsReady self.old }
+        requires settled { IsFound (clauses_of self.old) (trail_of self.old) None }
+        ensures ready { IsReady self.new }
+        ensures settled { IsFound (clauses_of self.new) (trail_of self.new) None }
+        ensures keeps { (self.new.store ≡ self.old.store) × (self.new.trail.variables ≡ self.old.trail.variables) }
+    {
+        let Some(mark) = last_decision(&self.trail) else {
+            return Ok(());
+        };
+        let from = first_decision(&self.trail, 0, mark);
+        order.reopen(&self.trail, from)?;
+        self.trail.cut(from);
+        Ok(())
     }
 
     /// The assignment that the trail gives.

@@ -12,6 +12,8 @@ ghost use Rattle.sa_core.specs.LogView.{LearnedHold, added_all, variables_with, 
 use crate::analyze::analyze;
 use crate::decide::{last_decision, open_literal};
 use crate::log::{Log, LogEntry};
+use crate::order::Order;
+use crate::restarts::Restarts;
 use crate::search::Search;
 use cn_clauses::{Assignment, Clause, Formula, Lit, literal_laws, propagation_laws};
 use jv_list::{List, Mem, TryCopy};
@@ -139,6 +141,8 @@ impl Solver {
         propagation_laws();
         let mut left = self.left(budget);
         let mut search = Search::new(self.alloc, self.variables, self.log.entries.as_slice())?;
+        let mut order = Order::new(self.alloc, self.variables)?;
+        let mut restarts = Restarts::new();
         let mut found = search.start()?;
         loop {
             match found {
@@ -152,10 +156,15 @@ impl Solver {
                         }
                         left -= 1;
                     }
-                    found = self.learn(&mut search, conflict, mark)?;
+                    restarts.count();
+                    found = self.learn(&mut search, &mut order, conflict, mark)?;
+                }
+                None if restarts.are_due() => {
+                    restarts.advance();
+                    search.restart(&mut order)?;
                 }
                 None => {
-                    let Some(lit) = open_literal(&search.trail) else {
+                    let Some(lit) = open_literal(&search.trail, &mut order) else {
                         return Ok(Solved::Sat(search.assignment(self.alloc)?));
                     };
                     found = search.decide(lit)?;
@@ -165,7 +174,13 @@ impl Solver {
     }
 
     // Learns a clause from the false one at a place, puts it into the log, and goes on with it.
-    fn learn(&mut self, search: &mut Search, conflict: usize, mark: usize) -> Mem<Option<usize>>
+    fn learn(
+        &mut self,
+        search: &mut Search,
+        order: &mut Order,
+        conflict: usize,
+        mark: usize,
+    ) -> Mem<Option<usize>>
         requires searching { IsSearching search.old (number_of self.old) (all_clauses (entries_of self.old)) (Some conflict) }
         requires mark { IsLastDecision search.old.trail.steps mark }
         ensures goes { IfOk result (λ found. IsSearching search.new (number_of self.new) (all_clauses (entries_of self.new)) found) }
@@ -177,9 +192,17 @@ impl Solver {
     {
         literal_laws();
         propagation_laws();
-        let lits = analyze(self.alloc, &search.store, &search.trail, conflict, mark)?;
+        let lits = analyze(
+            self.alloc,
+            &search.store,
+            &search.trail,
+            conflict,
+            mark,
+            order,
+        )?;
         self.record(&lits)?;
-        search.learn(lits.as_slice(), mark)
+        order.age();
+        search.learn(lits.as_slice(), mark, order)
     }
 }
 

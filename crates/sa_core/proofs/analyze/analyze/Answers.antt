@@ -1,27 +1,21 @@
-use Rattle.std.proofs.Common.{◌≡◌, ◌<◌, ◌≤◌, ◌-◌, ◌∷◌, [], ℕ, Bool, true≢false, List, Some, length, slice_get, sym}
+use Rattle.std.proofs.Common.{◌≡◌, ◌<◌, ◌≤◌, ◌-◌, [], ℕ, Bool, true≢false, List, length, sym}
 use Rattle.std.proofs.Common.{subst, ◌∙◌, arith, Contains}
 use Rattle.std.proofs.lemmas.Option.{slice_get_within}
 use Rattle.std.proofs.lemmas.Result.{IfOk-weaker}
 use Rattle.jv_list.proofs.MemberLemmas.{none_member}
 use Rattle.cn_clauses.specs.declared.lit.Lit.{Lit}
 use Rattle.cn_clauses.specs.Literals.{opposite_of}
-use Rattle.sa_core.specs.declared.step.Step.{Step}
 use Rattle.sa_core.specs.declared.analyze.Seen.{Seen}
 use Rattle.sa_core.specs.TrailView.{lits_of}
-use Rattle.sa_core.specs.SolverView.{AreJustified, IsJustifiedBy, IsImplied}
-use Rattle.sa_core.specs.Analysis.{IsSeen, IsLower, SomeSeen, IsLearnedClause, Sees}
+use Rattle.sa_core.specs.SolverView.{IsWithin}
+use Rattle.sa_core.specs.Analysis.{IsSeen, IsLower, SomeSeen, IsLearnedClause, Sees, IsMinimized}
 use Rattle.jv_list.proofs.ElementLemmas.{at_contains, one_at}
 use Rattle.sa_core.proofs.TrailLemmas.{at_lit, lits_length}
-use Rattle.sa_core.proofs.AnalyzeLemmas.{gives_first, gives_resolve, learned_clause, some_first, some_kept}
+use Rattle.sa_core.proofs.AnalyzeLemmas.{reason_at, gives_first, gives_resolve, some_first, some_kept}
+use Rattle.sa_core.proofs.MinimizeLemmas.{lower_within, learned_clause}
+use Rattle.sa_core.proofs.SearchLemmas.{same_place}
 use Rattle.sa_core.proofs.JumpLemmas.{settled_at}
 use Rattle.sa_core.proofs.analyze.analyze.Goals as goal
-
--- the reason of a step
-reason_at : (clauses : List (List Lit)) (steps : List Step) (place : ℕ) (step : Step) (reason : ℕ)
-    → AreJustified clauses steps → slice_get steps place ≡ Some step → step.reason ≡ Some reason
-    → IsImplied clauses (lits_of steps) place step.lit reason
-reason_at clauses steps place step reason justified is e =
-    subst (IsJustifiedBy clauses (lits_of steps) place step.lit) e (justified place step is)
 
 nothing_lower : (trail : List Lit) (mark : ℕ) (seen : Seen) → seen.lower ≡ []
     → ((place : ℕ) → IsSeen seen.places place → ⊥) → IsLower trail mark seen.places seen.lower
@@ -65,28 +59,42 @@ loop-end-init c =
           sees.seen);
     }
 
+pub minimized-requires-clause-lower : goal.minimized-requires-clause-lower
+minimized-requires-clause-lower c =
+    let own = c.args.trail.now in
+    subst (IsWithin own.variables) (sym c.as_slice-then-not-some_seen.ensures)
+    (lower_within c.literal_laws.ensures.opposite_variable own.steps own.places own.variables own.placed own.size
+    c.args.mark c.loop-end.seen.places c.loop-end.seen.lower c.loop-end.invariant.lower)
+
 pub returns-then-not-some_seen : goal.returns-then-not-some_seen
 returns-then-not-some_seen c =
     let clauses = c.args.store.now in
-    let steps = c.args.trail.now.steps in
+    let own = c.args.trail.now in
+    let trail = lits_of own.steps in
     let end = c.loop-end.end in
     let seen = c.loop-end.seen in
     let step = c.at-step.result.now in
     let more : c.args.mark < end = c.loop-end-test.true in
-    IfOk-weaker c.learned.result (λ lits. lits ≡ opposite_of step.lit ∷ seen.lower)
-    (IsLearnedClause clauses (lits_of steps) c.args.mark)
-    (λ lits e.
-    learned_clause clauses (lits_of steps) c.literal_laws.ensures.opposite_twice c.args.mark (end - 1) end seen.places
-    seen.lower step.lit (omega (arith, more)) (at_lit steps (end - 1) step c.at-step.ensures)
-    c.loop-end.invariant.lower
+    IfOk-weaker c.minimized.result
+    (IsMinimized clauses trail seen.places c.opposite.result c.as_slice-then-not-some_seen.result.now)
+    (IsLearnedClause clauses trail c.args.mark)
+    (λ lits short.
+    learned_clause clauses trail c.literal_laws.ensures.opposite_twice
+    (λ i j lit e f. same_place own.steps own.places lit i j own.placed e f) c.args.mark seen.places seen.lower step.lit
+    lits c.loop-end.invariant.lower
+    (subst (λ (l : List Lit). IsMinimized clauses trail seen.places (opposite_of step.lit) l lits)
+    c.as_slice-then-not-some_seen.ensures
+    (subst (λ (l : Lit). IsMinimized clauses trail seen.places l c.as_slice-then-not-some_seen.result.now lits)
+    c.opposite.ensures short))
+    (end - 1) end (omega (arith, more)) (at_lit own.steps (end - 1) step c.at-step.ensures)
     (λ s.
     true≢false
     (sym
     (c.some_seen.ensures.none
     (subst (λ (l : List Bool). SomeSeen l c.args.mark (end - 1)) (sym c.as_slice.ensures) s))
     ∙ c.if-not-some_seen.true))
-    c.loop-end.invariant.gives lits e (omega (arith, more)))
-    c.learned.ensures
+    c.loop-end.invariant.gives (omega (arith, more)))
+    c.minimized.ensures
 
 pub at-requires-in-Some : goal.at-requires-in-Some
 at-requires-in-Some c =

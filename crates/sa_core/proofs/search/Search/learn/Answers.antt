@@ -3,14 +3,14 @@ use Rattle.std.proofs.lemmas.Result.{IfOk-weaker}
 use Rattle.jv_list.proofs.MemberLemmas.{first_member}
 use Rattle.cn_clauses.specs.declared.lit.Lit.{Lit}
 use Rattle.cn_clauses.specs.Literals.{variable_of}
-use Rattle.sa_core.specs.declared.search.Search.{Search}
 use Rattle.sa_core.specs.declared.trail.Trail.{Trail}
 use Rattle.sa_core.specs.TrailView.{code}
 use Rattle.sa_core.specs.Calls.Propagate.{Propagates}
-use Rattle.sa_core.specs.SearchView.{IsStored, GoesOn}
+use Rattle.sa_core.specs.SearchView.{GoesOn}
 use Rattle.sa_core.proofs.CodeLemmas.{code_grows}
 use Rattle.sa_core.proofs.JumpLemmas.{learned_within, rest_within, rest_false, limit_fits, jump_open, jump_justified}
 use Rattle.sa_core.proofs.JumpLemmas.{jump_covered, jump_rises}
+use Rattle.sa_core.proofs.ReadyLemmas.{stored_by}
 use Rattle.sa_core.proofs.search.Search.learn.Goals as goal
 
 abbrev first_lit : Lit
@@ -20,17 +20,6 @@ first_has : (lits : List Lit) (lit : Lit) (lower : List Lit) → lits ≡ lit �
     → Contains lits (slice_index_or lits 0 first_lit)
 first_has lits lit lower e =
     subst (λ (l : List Lit). Contains l (slice_index_or l 0 first_lit)) (sym e) (first_member lit lower)
-
--- a search with another trail of its variables
-stored_by : (search : Search) (trail : Trail) → IsStored search → trail.variables ≡ search.trail.variables
-    → IsStored (record { store = search.store; occurrences = search.occurrences; trail = trail })
-stored_by search trail stored same =
-    record {
-      size = stored.size ∙ ap (λ (n : ℕ). 2 * n) (sym same);
-      listed = stored.listed;
-      within = λ lits has lit within.
-          subst (λ (n : ℕ). variable_of lit < n) (sym same) (stored.within lits has lit within);
-    }
 
 pub height-limit-requires-clause-within : goal.height-limit-requires-clause-within
 height-limit-requires-clause-within c =

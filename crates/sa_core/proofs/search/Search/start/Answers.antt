@@ -1,29 +1,11 @@
-use Rattle.std.proofs.Common.{◌≡◌, ◌<◌, ◌*◌, ◌∙◌, ℕ, sym, subst, ap}
+use Rattle.std.proofs.Common.{◌<◌, ◌∙◌, ℕ, sym, subst}
 use Rattle.std.proofs.lemmas.Result.{IfOk-weaker}
 use Rattle.cn_clauses.specs.Literals.{variable_of}
-use Rattle.sa_core.specs.declared.trail.Trail.{Trail}
-use Rattle.sa_core.specs.declared.search.Search.{Search}
-use Rattle.sa_core.specs.SolverView.{AreJustified}
 use Rattle.sa_core.specs.Calls.Propagate.{Starts, Propagates}
-use Rattle.sa_core.specs.SearchView.{IsStored, IsReady}
+use Rattle.sa_core.specs.SearchView.{IsReady}
 use Rattle.jv_list.proofs.ElementLemmas.{none_from_test}
+use Rattle.sa_core.proofs.ReadyLemmas.{ready_by}
 use Rattle.sa_core.proofs.search.Search.start.Goals as goal
-
--- a search whose trail went on
-ready_by : (search : Search) (trail : Trail) → IsStored search → trail.variables ≡ search.trail.variables
-    → AreJustified search.store trail.steps
-    → IsReady (record { store = search.store; occurrences = search.occurrences; trail = trail })
-ready_by search trail stored same justified =
-    record {
-      stored =
-          record {
-            size = stored.size ∙ ap (λ (n : ℕ). 2 * n) (sym same);
-            listed = stored.listed;
-            within = λ lits has lit within.
-                subst (λ (n : ℕ). variable_of lit < n) (sym same) (stored.within lits has lit within);
-          };
-      justified = justified;
-    }
 
 pub returns-then-is_some-clause-ready : goal.returns-then-is_some-clause-ready
 returns-then-is_some-clause-ready c =

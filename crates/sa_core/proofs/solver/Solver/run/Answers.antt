@@ -4,7 +4,8 @@ use Rattle.cn_clauses.specs.Formulas.{value_at}
 use Rattle.cn_clauses.specs.Satisfaction.{Satisfies}
 use Rattle.sa_core.specs.SpentLog.{AreLearnable}
 use Rattle.sa_core.specs.Answers.{IsRefuted}
-use Rattle.sa_core.proofs.SolveLemmas.{learns_more, learns_added, satisfies_added, refutes, all_spent, one_spent, falls}
+use Rattle.sa_core.proofs.SolveLemmas.{learns_more, learns_added, satisfies_added, refutes, all_spent, one_spent}
+use Rattle.sa_core.proofs.SolveLemmas.{falls_on, falls_back}
 use Rattle.sa_core.proofs.solver.Solver.run.Goals as goal
 use Rattle.sa_core.proofs.solver.Solver.run.Goals.{then-budget-ne0+else-left-eq0, else-budget-ne0}
 
@@ -38,8 +39,8 @@ returns-in_err-found-in-Some-clause-learns c =
 pub loop-found-smaller-in-Some : goal.loop-found-smaller-in-Some
 loop-found-smaller-in-Some c =
     let made = c.in_ok-found-in-Some.ensures in
-    falls c.loop-found.self.variables c.learn.new.self.variables c.loop-found.search c.learn.new.search made.variables
-    made.goes.number made.rises
+    falls_on c.loop-found.restarts.left c.count.new.self.left c.loop-found.self.variables c.learn.new.self.variables
+    c.loop-found.search c.learn.new.search c.count.ensures made.variables made.goes.number made.rises
 
 pub loop-found-preserved-in-Some : goal.loop-found-preserved-in-Some
 loop-found-preserved-in-Some c =
@@ -62,10 +63,10 @@ loop-found-preserved-in-Some c =
 
 pub returns-in_default-open_literal-clause-answer : goal.returns-in_default-open_literal-clause-answer
 returns-in_default-open_literal-clause-answer c =
-    let found = c.in_ok-assignment-in-None.ensures in
+    let found = c.in_ok-assignment-in-None-2.ensures in
     let own = c.loop-found.self.log.entries in
     let loop = c.loop-found.invariant in
-    let a = value_at c.in_ok-assignment-in-None.field-0.values in (
+    let a = value_at c.in_ok-assignment-in-None-2.field-0.values in (
       found.number ∙ loop.searching.number ∙ loop.number,
       subst (Satisfies a) (learns_added c.args.self.now.log.entries own loop.learns)
           (satisfies_added a own (subst (Satisfies a) loop.searching.holds found.satisfies)),
@@ -73,6 +74,12 @@ returns-in_default-open_literal-clause-answer c =
 
 pub loop-found-smaller : goal.loop-found-smaller
 loop-found-smaller c =
-    let made = c.in_ok-found-in-None.ensures in
-    falls c.loop-found.self.variables c.loop-found.self.variables c.loop-found.search c.decide.new.self refl
+    let made = c.in_ok-found-in-None-2.ensures in
+    falls_on c.loop-found.restarts.left c.loop-found.restarts.left c.loop-found.self.variables
+    c.loop-found.self.variables c.loop-found.search c.decide.new.self refl refl
     (made.goes.variables ∙ c.loop-found.invariant.searching.number) made.goes.rises
+
+pub loop-found-smaller-then-are_due : goal.loop-found-smaller-then-are_due
+loop-found-smaller-then-are_due c =
+    falls_back c.loop-found.restarts.left c.advance.new.self.left c.loop-found.self.variables c.loop-found.search
+    c.restart.new.self c.advance.ensures c.loop-found.invariant.searching.number

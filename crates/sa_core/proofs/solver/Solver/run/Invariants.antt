@@ -1,4 +1,4 @@
-use Rattle.std.proofs.Common.{◌≡◌, ◌-◌, ◌*◌, ◌^◌}
+use Rattle.std.proofs.Common.{◌≡◌, ◌+◌, ◌-◌, ◌*◌, ◌^◌}
 use Rattle.sa_core.specs.SpentLog.{all_clauses}
 use Rattle.sa_core.specs.Solvers.{number_of, entries_of}
 use Rattle.sa_core.specs.LogView.{Learns}
@@ -15,4 +15,5 @@ invariant-loop-found l = record {
 }
 
 abbrev pub decreases-loop-found : goal.decreases-loop-found
-decreases-loop-found l = 3 ^ (2 * number_of l.self) - reached l.search
+decreases-loop-found l =
+    l.restarts.left * 3 ^ (2 * number_of l.self) + (3 ^ (2 * number_of l.self) - reached l.search)
