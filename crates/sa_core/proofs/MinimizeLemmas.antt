@@ -1,9 +1,11 @@
 -- The clause that is learned: what was seen before the mark is given by the literals that minimisation left.
-use Rattle.std.proofs.Common.{◌≡◌, ◌+◌, ◌*◌, ◌<◌, ◌≤◌, ℕ, zero, suc, Bool, List, [], ◌∷◌, ◌++◌, length, Option, Some, Contains}
+use Rattle.std.proofs.Common.{◌≡◌, ◌+◌, ◌*◌, ◌<◌, ◌≤◌, ℕ, zero, suc, Bool, List, [], ◌∷◌, ◌++◌, length, Option, Some}
+use Rattle.std.proofs.Common.{Contains}
 use Rattle.std.proofs.Common.{slice_get, sym, ap, ◌∙◌}
 use Rattle.std.proofs.Common.{subst, inl, inr, arith}
 use Rattle.std.proofs.lemmas.Bool.{cases_lt}
-use Rattle.std.proofs.lemmas.List.Elements.{Contains-append_left, Contains-append_right, Contains-push, Contains-push_cases}
+use Rattle.std.proofs.lemmas.List.Elements.{Contains-append_left, Contains-append_right, Contains-push}
+use Rattle.std.proofs.lemmas.List.Elements.{Contains-push_cases}
 use Rattle.jv_list.proofs.ElementLemmas.{at_contains, one_at}
 use Rattle.jv_list.proofs.MemberLemmas.{in_map, first_member}
 use Rattle.cn_clauses.specs.declared.lit.Lit.{Lit}
@@ -75,7 +77,8 @@ module _ (clauses : List (List Lit)) (trail : List Lit) (seen : List Bool) (lit 
 
 module _ (clauses : List (List Lit)) (trail : List Lit) (twice : OppositeTwice)
     (one : (i j : ℕ) (lit : Lit) → slice_get trail i ≡ Some lit → slice_get trail j ≡ Some lit → i ≡ j)
-    (mark : ℕ) (seen : List Bool) (lower : List Lit) (lit : Lit) (lits : List Lit) (kept : IsLower trail mark seen lower)
+    (mark : ℕ) (seen : List Bool) (lower : List Lit) (lit : Lit) (lits : List Lit) (kept : IsLower trail mark seen
+    lower)
     (short : IsMinimized clauses trail seen (opposite_of lit) lower lits) where
   started : (other : Lit) → Contains lits (opposite_of other) → IsForced clauses (opposites_of lits) other
   started other has =
