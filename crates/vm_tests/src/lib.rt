@@ -1,8 +1,10 @@
-//! Tests of the public calls of texts, of the state of the machine and of library rows. What they expect of texts was written by the JVM.
+//! Tests of the public calls of texts, of the built-in classes, of the state of the machine and of library rows. What they expect of texts was written by the JVM.
 #![tactic(auto)]
 
 #[cfg(test)]
 mod heaps;
+#[cfg(test)]
+mod known;
 #[cfg(test)]
 mod library;
 #[cfg(test)]

@@ -1,0 +1,5 @@
+pub mod Calls
+pub mod Classes
+pub mod Laws
+pub mod Methods
+pub mod Rows
