@@ -222,7 +222,8 @@ fn five_objects<R: Abort + AllocGlobal>(rt: &R) -> State {
 }
 
 fn value_of<R: Abort>(rt: &R, word: &str) -> Value {
-    let number = number_of(rt, &word[1..]);
+    let digits = word.get(1..).expect(rt, "a letter before the number");
+    let number = number_of(rt, digits);
     match word.as_bytes() {
         [b'i', ..] => Value::Int(number),
         [b'l', ..] => Value::Long(i64::from(number)),
