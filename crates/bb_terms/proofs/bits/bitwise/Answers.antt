@@ -1,0 +1,41 @@
+use Rattle.std.proofs.Common.{◌≡◌, ◌<◌, ◌≤◌, ◌+◌, ℕ, Bool, List, length, take, sym, subst, arith}
+use Rattle.cn_clauses.specs.declared.lit.Lit.{Lit}
+use Rattle.bb_gates.specs.Values.{of_two}
+use Rattle.bb_arith.specs.Words.{number_of}
+use Rattle.bb_terms.specs.Calls.Words.{IsWord, bits_number, joined_bits}
+use Rattle.bb_terms.proofs.WordLemmas.{word_next, joined_more, joined_whole}
+use Rattle.bb_terms.proofs.bits.bitwise.Goals as goal
+
+pub returns-in_err-lit-clause-keeps : goal.returns-in_err-lit-clause-keeps
+returns-in_err-lit-clause-keeps c =
+    let laws = c.growth_laws.ensures in
+    laws.through c.args.formula.now c.loop-i.formula c.joined.new.formula
+    (laws.extends c.args.formula.now c.loop-i.formula c.loop-i.invariant.gate.extends) c.joined.ensures.keeps
+
+pub returns-in_err-add-clause-keeps : goal.returns-in_err-add-clause-keeps
+returns-in_err-add-clause-keeps c =
+    let laws = c.growth_laws.ensures in
+    laws.through c.args.formula.now c.loop-i.formula c.joined.new.formula
+    (laws.extends c.args.formula.now c.loop-i.formula c.loop-i.invariant.gate.extends) c.joined.ensures.keeps
+
+pub loop-i-preserved : goal.loop-i-preserved
+loop-i-preserved c =
+    let i = c.loop-i.i in
+    let a = c.args.a.now in
+    let b = c.args.b.now in
+    let kind = c.args.kind in
+    let d : Lit = record { 0 = 0 } in
+    let in_a : i < length a = c.loop-i-test.true in
+    let in_b : i < length b = let even = c.requires.even in omega (arith, in_a, even) in
+    let next : (ℕ → Bool) → ℕ = λ w. bits_number kind (number_of w (take (i + 1) a)) (number_of w (take (i + 1) b)) in
+    let word = word_next c.extension_laws.ensures.through c.args.formula.now c.loop-i.formula c.joined.new.formula i
+    c.loop-i.lits c.in_ok-lit.lit _ _ next (joined_more a b i d in_a in_b kind) c.loop-i.invariant
+    c.in_ok-lit.ensures.gate in
+    subst (λ (lits : List Lit). IsWord (i + 1) c.args.formula.now c.joined.new.formula lits next)
+    (sym c.in_ok-add.ensures.ok) word
+
+pub returns-clause-gate : goal.returns-clause-gate
+returns-clause-gate c =
+    let past = c.loop-i-test.false in
+    joined_whole c.args.kind c.args.a.now c.args.b.now c.loop-i.i _ _ _ c.requires.even past c.loop-i.auto.i-end
+    c.loop-i.invariant

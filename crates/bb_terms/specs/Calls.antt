@@ -1,0 +1,4 @@
+-- What private functions ensure.
+pub mod Marks
+pub mod Terms
+pub mod Words

@@ -1,0 +1,4 @@
+pub mod ListLemmas
+pub mod TextLemmas
+pub mod FitLemmas
+pub mod WrittenLemmas

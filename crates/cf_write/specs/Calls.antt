@@ -1,0 +1,2 @@
+-- What private functions put.
+pub mod Texts
