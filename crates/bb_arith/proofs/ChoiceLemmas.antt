@@ -11,7 +11,8 @@ use Rattle.cn_clauses.specs.Extension.{Extends, IsGate}
 use Rattle.cn_clauses.specs.Laws.{ExtendsThrough}
 use Rattle.bb_gates.specs.Values.{chosen, of_three}
 use Rattle.bb_gates.specs.Growth.{AreOf, Adds}
-use Rattle.bb_arith.specs.Words.{bit_number, number_of, IsWordGate}
+use Rattle.bb_arith.specs.Words.{number_of, IsWordGate}
+use Rattle.jv_list.specs.Numbers.{bit_number}
 use Rattle.bb_arith.proofs.WordLemmas.{number_take, set_number, word_grown, word_push}
 
 -- the number of the word that is chosen

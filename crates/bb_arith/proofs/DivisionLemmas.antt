@@ -17,7 +17,8 @@ use Rattle.cn_clauses.specs.Extension.{Shows, IsGate}
 use Rattle.cn_clauses.specs.Laws.{ExtendsThrough, ShowsLater, ShowsOpposite}
 use Rattle.bb_gates.specs.Laws.{ConservativeThrough}
 use Rattle.bb_gates.specs.Growth.{IsConservative, Adds}
-use Rattle.bb_arith.specs.Words.{bit_number, number_of, IsWordGate}
+use Rattle.bb_arith.specs.Words.{number_of, IsWordGate}
+use Rattle.jv_list.specs.Numbers.{bit_number}
 use Rattle.bb_arith.specs.Calls.Division.{IsReduced, IsDivided, IsDivision}
 use Rattle.bb_arith.proofs.NumberLemmas.{number_below}
 use Rattle.bb_arith.proofs.WordLemmas.{word_grown, word_set}

@@ -3,7 +3,7 @@ use Rattle.std.proofs.Common.{◌≡◌, ◌<◌, ◌≤◌, ◌+◌, ◌-◌, �
 use Rattle.std.proofs.Common.{◌∙◌, arith, if◌then◌else◌}
 use Rattle.std.proofs.Math.Nat.{add-mul-div_right, mod-eq_of_lt}
 use Rattle.std.proofs.lemmas.Nat.{shr-shr, pow-add, pow_pos, mul-mod_first}
-use Rattle.bb_arith.specs.Words.{bit_number}
+use Rattle.jv_list.specs.Numbers.{bit_number}
 use Rattle.bb_arith.specs.Calls.Moves.{moved_number}
 
 nothing_filled : (k x : ℕ) (fill : Bool) → k / 1 + bit_number fill * (x - x) ≡ k

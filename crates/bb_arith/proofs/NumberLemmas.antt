@@ -5,7 +5,8 @@ use Rattle.std.proofs.lemmas.Bool.{cases_Bool, ltb-true, lt-ltb, both_ways}
 use Rattle.cn_clauses.specs.declared.lit.Lit.{Lit}
 use Rattle.cn_clauses.specs.Literals.{lit_value}
 use Rattle.bb_gates.specs.Values.{majority}
-use Rattle.bb_arith.specs.Words.{bit_number, number_of}
+use Rattle.bb_arith.specs.Words.{number_of}
+use Rattle.jv_list.specs.Numbers.{bit_number}
 
 -- twice a number and a bit, where a bit stands above
 shifted : (b n p : ℕ) (x : Bool) → b + 2 * (n + p * bit_number x) ≡ (b + 2 * n) + (2 * p) * bit_number x

@@ -10,7 +10,8 @@ use Rattle.cn_clauses.specs.Extension.{IsGate}
 use Rattle.cn_clauses.specs.Laws.{ExtendsThrough, OppositeValue}
 use Rattle.bb_gates.specs.Values.{majority, of_three}
 use Rattle.bb_gates.specs.Growth.{Adds}
-use Rattle.bb_arith.specs.Words.{bit_number, number_of}
+use Rattle.bb_arith.specs.Words.{number_of}
+use Rattle.jv_list.specs.Numbers.{bit_number}
 use Rattle.bb_arith.proofs.NumberLemmas.{number_append, number_below, order_next}
 
 -- whether the number of the first word is less

@@ -11,7 +11,8 @@ use Rattle.cn_clauses.specs.Literals.{lit_value}
 use Rattle.cn_clauses.specs.Extension.{Shows, IsGate}
 use Rattle.cn_clauses.specs.Laws.{ExtendsThrough}
 use Rattle.bb_gates.specs.Growth.{Adds}
-use Rattle.bb_arith.specs.Words.{bit_number, number_of, IsWordGate}
+use Rattle.bb_arith.specs.Words.{number_of, IsWordGate}
+use Rattle.jv_list.specs.Numbers.{bit_number}
 use Rattle.bb_arith.proofs.WordLemmas.{number_take}
 use Rattle.bb_arith.proofs.PlaceLemmas.{number_zeros, repeated_within}
 

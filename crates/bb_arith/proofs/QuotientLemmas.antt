@@ -10,8 +10,9 @@ use Rattle.std.proofs.lemmas.Nat.{pow_pos, div-add-mod'}
 use Rattle.cn_clauses.specs.declared.lit.Lit.{Lit}
 use Rattle.cn_clauses.specs.Literals.{lit_value}
 use Rattle.bb_gates.specs.Values.{differ, any_of}
-use Rattle.bb_arith.specs.Words.{bit_number, number_of, signed_of, wrapped_number}
-use Rattle.bb_arith.specs.Quotients.{quotient_of, remainder_of}
+use Rattle.bb_arith.specs.Words.{number_of, signed_of}
+use Rattle.jv_list.specs.Numbers.{bit_number, wrapped_number}
+use Rattle.jv_list.specs.Numbers.{quotient_of, remainder_of}
 use Rattle.bb_arith.specs.Calls.Division.{turned_number, turned_or_zero}
 use Rattle.bb_arith.proofs.NumberLemmas.{double_next, number_below}
 use Rattle.bb_arith.proofs.SignLemmas.{as_signed, lower_half, upper_half, number_whole, signed_whole, take_below}

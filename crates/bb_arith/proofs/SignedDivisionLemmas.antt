@@ -7,8 +7,9 @@ use Rattle.cn_clauses.specs.Laws.{ExtendsThrough}
 use Rattle.bb_gates.specs.Values.{differ, of_two, any_of}
 use Rattle.bb_gates.specs.Growth.{IsConservative}
 use Rattle.bb_gates.specs.Laws.{ConservativeThrough}
-use Rattle.bb_arith.specs.Words.{signed_of, wrapped_number, IsWordGate}
-use Rattle.bb_arith.specs.Quotients.{quotient_of, remainder_of}
+use Rattle.bb_arith.specs.Words.{signed_of, IsWordGate}
+use Rattle.jv_list.specs.Numbers.{wrapped_number}
+use Rattle.jv_list.specs.Numbers.{quotient_of, remainder_of}
 use Rattle.bb_arith.specs.Calls.Division.{turned_number, turned_or_zero, IsDivision}
 use Rattle.bb_arith.proofs.WordLemmas.{word_grown}
 use Rattle.bb_arith.proofs.QuotientLemmas.{quotient_answer, remainder_answer}

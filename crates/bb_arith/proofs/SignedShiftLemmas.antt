@@ -6,7 +6,8 @@ use Rattle.std.proofs.Math.Nat.{mod-eq_of_lt}
 use Rattle.std.proofs.lemmas.Nat.{div-mul-add, div_below, pow-add, pow_pos, shr_le, mod_below, div-add-mod'}
 use Rattle.cn_clauses.specs.declared.lit.Lit.{Lit}
 use Rattle.cn_clauses.specs.Literals.{lit_value}
-use Rattle.bb_arith.specs.Words.{bit_number, number_of, signed_of, wrapped_number}
+use Rattle.bb_arith.specs.Words.{number_of, signed_of}
+use Rattle.jv_list.specs.Numbers.{bit_number, wrapped_number}
 use Rattle.bb_arith.specs.Calls.Moves.{moved_number}
 use Rattle.bb_arith.proofs.NumberLemmas.{double_next}
 use Rattle.bb_arith.proofs.SignLemmas.{as_signed, lower_half, upper_half, number_whole, signed_whole, take_below}

@@ -11,7 +11,8 @@ use Rattle.cn_clauses.specs.Extension.{Extends, Shows, IsGate}
 use Rattle.cn_clauses.specs.Laws.{ExtendsThrough, ShowsLater}
 use Rattle.bb_gates.specs.Values.{parity, majority, of_three}
 use Rattle.bb_gates.specs.Growth.{AreOf, Adds, AddsNoGate, AddsNothing, AddsTruth}
-use Rattle.bb_arith.specs.Words.{bit_number, number_of, IsWordGate}
+use Rattle.bb_arith.specs.Words.{number_of, IsWordGate}
+use Rattle.jv_list.specs.Numbers.{bit_number}
 use Rattle.bb_arith.specs.Sums.{IsSumSoFar}
 use Rattle.bb_arith.proofs.NumberLemmas.{double_next, number_below}
 use Rattle.bb_arith.proofs.WordLemmas.{number_take, set_number, word_grown, word_push}

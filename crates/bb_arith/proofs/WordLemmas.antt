@@ -10,7 +10,8 @@ use Rattle.cn_clauses.specs.Literals.{variable_of, opposite_of, lit_value}
 use Rattle.cn_clauses.specs.Formulas.{variables_of}
 use Rattle.cn_clauses.specs.Laws.{OppositeValue, OppositeVariable}
 use Rattle.bb_gates.specs.Growth.{AreOf}
-use Rattle.bb_arith.specs.Words.{bit_number, number_of}
+use Rattle.bb_arith.specs.Words.{number_of}
+use Rattle.jv_list.specs.Numbers.{bit_number}
 use Rattle.bb_arith.proofs.NumberLemmas.{number_append, double_power}
 use Rattle.bb_arith.proofs.OrderLemmas.{take_next}
 

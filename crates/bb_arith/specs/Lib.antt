@@ -1,4 +1,3 @@
 pub mod Calls
-pub mod Quotients
 pub mod Sums
 pub mod Words

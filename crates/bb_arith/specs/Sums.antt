@@ -6,7 +6,8 @@ use Rattle.cn_clauses.specs.Satisfaction.{Satisfies}
 use Rattle.cn_clauses.specs.Formulas.{clauses_of}
 use Rattle.cn_clauses.specs.Extension.{Extends, Shows}
 use Rattle.bb_gates.specs.Growth.{AreOf}
-use Rattle.bb_arith.specs.Words.{bit_number, number_of}
+use Rattle.bb_arith.specs.Words.{number_of}
+use Rattle.jv_list.specs.Numbers.{bit_number}
 
 -- the first i bits of the sum with the carry out of them show the sum of the first i bits of the words, and the carry's
 -- literal shows it

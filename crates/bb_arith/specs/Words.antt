@@ -1,6 +1,6 @@
 -- Words: literals for the bits of a number, the lowest first.
-use Rattle.std.specs.Prelude.{◌≡◌, ◌+◌, ◌-◌, ◌*◌, ◌%◌, ◌^◌, ℕ, ℤ, pos, negsuc, suc, Bool, List, [], ◌∷◌, length, nat_lt}
-use Rattle.std.specs.Prelude.{if◌then◌else◌}
+use Rattle.std.specs.Prelude.{◌≡◌, ◌+◌, ◌*◌, ℕ, ℤ, Bool, List, [], ◌∷◌, length}
+use Rattle.jv_list.specs.Numbers.{bit_number, signed_number}
 use Rattle.cn_clauses.specs.declared.lit.Lit.{Lit}
 use Rattle.cn_clauses.specs.declared.formula.Formula.{Formula}
 use Rattle.cn_clauses.specs.Literals.{lit_value}
@@ -9,27 +9,14 @@ use Rattle.cn_clauses.specs.Formulas.{clauses_of}
 use Rattle.cn_clauses.specs.Extension.{Extends}
 use Rattle.bb_gates.specs.Growth.{AreOf}
 
--- the number of a bit
-abbrev pub bit_number : Bool → ℕ
-bit_number bit = if bit then 1 else 0
-
 -- the number that a word shows under an assignment
 abbrev pub number_of : (ℕ → Bool) → List Lit → ℕ
 number_of w [] = 0
 number_of w (lit ∷ lits) = bit_number (lit_value w lit) + 2 * number_of w lits
 
--- a number below 2 ^ n as a signed one, in two's complement: less 2 ^ n where it is half of that or more
-abbrev pub signed_number : ℕ → ℕ → ℤ
-signed_number n k = if nat_lt (2 * k) (2 ^ n) then pos k else negsuc (2 ^ n - suc k)
-
 -- the signed number that a word shows under an assignment
 abbrev pub signed_of : (ℕ → Bool) → List Lit → ℤ
 signed_of w lits = signed_number (length lits) (number_of w lits)
-
--- a whole number modulo 2 ^ n
-abbrev pub wrapped_number : ℕ → ℤ → ℕ
-wrapped_number n (pos k) = k % 2 ^ n
-wrapped_number n (negsuc k) = 2 ^ n - suc (k % 2 ^ n)
 
 -- a word for a number: it shows the number, and the formula was extended in exactly one way
 pub record IsWordGate (old new : Formula) (lits : List Lit) (value : (ℕ → Bool) → ℕ) : Type 0 where

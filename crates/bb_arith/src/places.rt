@@ -3,7 +3,8 @@ ghost use Rattle.std.specs.Prelude.{◌≡◌, ◌≤◌, ◌+◌, ◌-◌, ◌*
 ghost use Rattle.cn_clauses.specs.declared.formula.Formula.{Formula};
 ghost use Rattle.cn_clauses.specs.Literals.{lit_value};
 ghost use Rattle.bb_gates.specs.Growth.{AreOf};
-ghost use Rattle.bb_arith.specs.Words.{bit_number, number_of};
+ghost use Rattle.bb_arith.specs.Words.{number_of};
+ghost use Rattle.jv_list.specs.Numbers.{bit_number};
 ghost use Rattle.bb_arith.specs.Calls.Moves.{moved_number};
 
 use cn_clauses::Lit;

@@ -1,8 +1,9 @@
 // Quotients and remainders of words.
 ghost use Rattle.std.specs.Prelude.{◌≡◌, ◌<◌, ◌+◌, ◌*◌, ◌^◌, ℕ, Bool, [], ◌∷◌, IfOk};
 ghost use Rattle.bb_gates.specs.Growth.{AreOf, IsConservative, Adds};
-ghost use Rattle.bb_arith.specs.Words.{signed_of, wrapped_number, IsWordGate};
-ghost use Rattle.bb_arith.specs.Quotients.{quotient_of, remainder_of};
+ghost use Rattle.bb_arith.specs.Words.{signed_of, IsWordGate};
+ghost use Rattle.jv_list.specs.Numbers.{wrapped_number};
+ghost use Rattle.jv_list.specs.Numbers.{quotient_of, remainder_of};
 ghost use Rattle.bb_arith.specs.Calls.Division.{turned_number, turned_or_zero, IsReduced, IsDivided, IsDivision};
 
 use crate::choice::choose;

@@ -4,7 +4,8 @@ ghost use Rattle.std.specs.Int.{is_power_of_two, int_shr};
 ghost use Rattle.cn_clauses.specs.Literals.{lit_value};
 ghost use Rattle.cn_clauses.specs.Extension.{Shows};
 ghost use Rattle.bb_gates.specs.Growth.{AreOf, IsConservative, Adds};
-ghost use Rattle.bb_arith.specs.Words.{number_of, signed_of, wrapped_number, IsWordGate};
+ghost use Rattle.bb_arith.specs.Words.{number_of, signed_of, IsWordGate};
+ghost use Rattle.jv_list.specs.Numbers.{wrapped_number};
 ghost use Rattle.bb_arith.specs.Calls.Moves.{moved_number};
 
 use crate::choice::choose;

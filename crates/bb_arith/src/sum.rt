@@ -2,7 +2,8 @@
 ghost use Rattle.std.specs.Prelude.{◌≡◌, ◌+◌, ◌-◌, ◌*◌, ◌^◌, ◌%◌, IfOk, ℕ, Bool};
 ghost use Rattle.cn_clauses.specs.declared.formula.Formula.{Formula};
 ghost use Rattle.bb_gates.specs.Growth.{AreOf, IsConservative, Adds};
-ghost use Rattle.bb_arith.specs.Words.{bit_number, number_of, IsWordGate};
+ghost use Rattle.bb_arith.specs.Words.{number_of, IsWordGate};
+ghost use Rattle.jv_list.specs.Numbers.{bit_number};
 
 use bb_gates::{carry_bit, constant_lit, growth_laws, sum_bit};
 use cn_clauses::{Formula, Lit, extension_laws, literal_laws, value_laws};

@@ -6,7 +6,7 @@ use Rattle.std.specs.Prelude.{nat_lt, int_lt}
 use Rattle.cn_clauses.specs.declared.lit.Lit.{Lit}
 use Rattle.cn_clauses.specs.declared.formula.Formula.{Formula}
 use Rattle.bb_arith.specs.Words.{number_of, signed_of, IsWordGate, wrapped_number as wrapped}
-use Rattle.tm_terms.specs.Words.{signed_number, wrapped_number}
+use Rattle.jv_list.specs.Numbers.{signed_number, wrapped_number}
 use Rattle.bb_terms.specs.declared.arithmetic.WordOp.{WordOp}
 use Rattle.bb_terms.specs.declared.arithmetic.WordOp.TheVariants.{Add, Sub, Mul, Div, Rem, Shl, Shr, Ushr}
 use Rattle.bb_terms.specs.Calls.Words.{IsWord, arithmetic_number, arithmetic_value, is_in_order}

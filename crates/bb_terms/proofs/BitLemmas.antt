@@ -5,7 +5,8 @@ use Rattle.cn_clauses.specs.declared.lit.Lit.{Lit}
 use Rattle.cn_clauses.specs.Literals.{variable_of, lit_value}
 use Rattle.cn_clauses.specs.Satisfaction.{Agrees, IsClauseBelow}
 use Rattle.cn_clauses.specs.Laws.{ValueAgrees}
-use Rattle.bb_arith.specs.Words.{bit_number, number_of}
+use Rattle.bb_arith.specs.Words.{number_of}
+use Rattle.jv_list.specs.Numbers.{bit_number}
 use Rattle.bb_terms.proofs.NumberLemmas.{bit_rest, double_power}
 
 -- assignments that agree give a word one number

@@ -8,7 +8,8 @@ use Rattle.std.proofs.lemmas.List.{length-take-le}
 use Rattle.std.proofs.lemmas.Nat.{and_block, or_block, xor_block, mod-pow-add}
 use Rattle.cn_clauses.specs.declared.lit.Lit.{Lit}
 use Rattle.cn_clauses.specs.Literals.{lit_value}
-use Rattle.bb_arith.specs.Words.{bit_number, number_of}
+use Rattle.bb_arith.specs.Words.{number_of}
+use Rattle.jv_list.specs.Numbers.{bit_number}
 use Rattle.bb_terms.specs.declared.bits.BitOp.{BitOp}
 use Rattle.bb_terms.specs.declared.bits.BitOp.TheVariants.{And, Or, Xor}
 use Rattle.bb_terms.specs.Calls.Words.{joined_bits, bits_number}

@@ -15,7 +15,8 @@ use Rattle.cn_clauses.specs.Formulas.{variables_of, clauses_of}
 use Rattle.cn_clauses.specs.Extension.{Continues, Extends, IsExtension, Grows}
 use Rattle.cn_clauses.specs.Laws.{ContinuesItself, ContinuesThrough, ContinuesKeeps, ValueAgrees}
 use Rattle.bb_gates.specs.Growth.{AreOf, IsConservative}
-use Rattle.bb_arith.specs.Words.{bit_number, number_of}
+use Rattle.bb_arith.specs.Words.{number_of}
+use Rattle.jv_list.specs.Numbers.{bit_number}
 use Rattle.tm_terms.specs.declared.op.Op.{Op}
 use Rattle.tm_terms.specs.declared.op.Op.TheVariants.{Free}
 use Rattle.tm_terms.specs.declared.sort.Sort.{Sort}

@@ -15,12 +15,14 @@ use Rattle.cn_clauses.specs.Literals.{variable_of, opposite_of, lit_value}
 use Rattle.cn_clauses.specs.Formulas.{variables_of}
 use Rattle.cn_clauses.specs.Laws.{OppositeValue, OppositeVariable, ExtendsItself}
 use Rattle.bb_gates.specs.Growth.{AreOf}
-use Rattle.bb_arith.specs.Words.{bit_number, number_of}
+use Rattle.bb_arith.specs.Words.{number_of}
+use Rattle.jv_list.specs.Numbers.{bit_number}
 use Rattle.bb_terms.specs.Calls.Words.{IsWord, IsLonger, chosen_number}
 use Rattle.bb_terms.specs.Calls.Terms.{IsTermWord}
 use Rattle.bb_terms.specs.Tables.{HasWord, HasSome, ShowsValuation, IsTable}
 use Rattle.tm_terms.specs.declared.op.Op.{Op}
-use Rattle.tm_terms.specs.Words.{width_of, signed_number, wrapped_number}
+use Rattle.tm_terms.specs.Words.{width_of}
+use Rattle.jv_list.specs.Numbers.{signed_number, wrapped_number}
 use Rattle.tm_terms.specs.declared.sort.Sort.{Sort}
 use Rattle.tm_terms.specs.declared.sort.Sort.TheVariants.{Bool as Truth, W16, W32, W64}
 use Rattle.tm_terms.specs.Terms.{term_sort, term_value}

@@ -16,7 +16,8 @@ use Rattle.std.proofs.lemmas.Bool.{eqb-true, eq-eqb, cases_Bool}
 use Rattle.cn_clauses.specs.Laws.{ExtendsThrough, OppositeValue, OppositeVariable}
 use Rattle.bb_gates.specs.Values.{chosen, of_three, of_two, any_of}
 use Rattle.bb_gates.specs.Growth.{AreOf, IsConservative}
-use Rattle.bb_arith.specs.Words.{bit_number, number_of, IsWordGate}
+use Rattle.bb_arith.specs.Words.{number_of, IsWordGate}
+use Rattle.jv_list.specs.Numbers.{bit_number}
 use Rattle.bb_terms.specs.declared.bits.BitOp.{BitOp}
 use Rattle.bb_terms.specs.declared.bits.BitOp.TheVariants.{Xor}
 use Rattle.bb_terms.specs.Calls.Words.{IsWord, joined_bits, bits_number, chosen_number}

@@ -3,7 +3,8 @@ ghost use Rattle.std.specs.Prelude.{◌≡◌, ◌+◌, ◌-◌, ◌%◌, ◌^�
 ghost use Rattle.std.specs.Prelude.{List as list_of};
 ghost use Rattle.cn_clauses.specs.declared.lit.Lit.{Lit};
 ghost use Rattle.bb_gates.specs.Growth.{IsConservative};
-ghost use Rattle.tm_terms.specs.Words.{width_of, bit_number, signed_number, wrapped_number};
+ghost use Rattle.tm_terms.specs.Words.{width_of};
+ghost use Rattle.jv_list.specs.Numbers.{bit_number, signed_number, wrapped_number};
 ghost use Rattle.tm_terms.specs.Operations.{operands_of};
 ghost use Rattle.tm_terms.specs.Terms.{term_sort, term_value, op_sort, op_value, is_free, Fits};
 ghost use Rattle.tm_terms.specs.declared.sort.Sort.TheVariants.{Bool as Truth};

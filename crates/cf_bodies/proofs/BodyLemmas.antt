@@ -19,14 +19,7 @@ use Rattle.cf_bodies.specs.Bodies.{AreBodies}
 use Rattle.cf_bodies.specs.Calls.Tells.{ArePassed, IsFirstFailed}
 use Rattle.cf_bodies.specs.Calls.Views.{placed_of, FitsPlaced}
 use Rattle.cf_bodies.proofs.CheckLemmas.{more_passed, stops_there}
-
--- two lists with one more beside each other
-zip_push : {X Y : Type 0} (R : X → Y → Type 0) (xs : List X) (ys : List Y) (x : X) (y : Y) → AllZip R xs ys → R x y
-    → AllZip R (xs ++ x ∷ []) (ys ++ y ∷ [])
-zip_push R [] [] x y h k = (k, tt)
-zip_push R [] (b ∷ ys) x y h k = absurd h
-zip_push R (a ∷ xs) [] x y h k = absurd h
-zip_push R (a ∷ xs) (b ∷ ys) x y h k = (h.0, zip_push R xs ys x y h.1 k)
+use Rattle.jv_list.proofs.ZipLemmas.{zip_push}
 
 -- the checks of a Code that was found
 abbrev checks_of : CodeAt → List CheckAt

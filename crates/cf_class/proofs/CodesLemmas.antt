@@ -19,7 +19,7 @@ use Rattle.cf_bodies.specs.Places.{body_codes as body_placed, attribute_codes as
 use Rattle.cf_bodies.specs.Places.{method_codes as method_placed}
 use Rattle.cf_bodies.specs.Bodies.{AreBodies}
 use Rattle.cf_class.specs.Calls.Contents.{body_codes, attribute_codes, member_codes, class_codes, HaveBodies}
-use Rattle.cf_class.proofs.ListLemmas.{zip_viewed}
+use Rattle.jv_list.proofs.ZipLemmas.{zip_viewed}
 use Rattle.cf_class.proofs.BodiesLemmas.{have_all}
 
 abbrev pub content_of : PlacedCode → RawCode

@@ -25,7 +25,8 @@ use Rattle.cf_class.specs.Content.{row_of, IsTextNamed, IsClassNamed, IsSkippedC
 use Rattle.cf_class.specs.Content.{IsAttributeContent, IsMemberContent, IsContent}
 use Rattle.cf_class.specs.Calls.Contents.{HasContent, HaveContent, body_codes, attribute_codes, member_codes}
 use Rattle.cf_class.specs.Calls.Contents.{class_codes}
-use Rattle.cf_class.proofs.ListLemmas.{some_beside, all_behind, all_parts, all_from}
+use Rattle.jv_list.proofs.ZipLemmas.{some_beside}
+use Rattle.jv_list.proofs.AllLemmas.{all_behind, all_parts, all_from}
 use Rattle.cf_class.proofs.KeptLemmas.{AreKept, kept_front, kept_behind, first_kept, each_kept, text_named, class_named}
 use Rattle.cf_class.proofs.KeptLemmas.{entries_named, judged_kept}
 

@@ -10,7 +10,7 @@ use Rattle.cf_bodies.specs.Passes.{IsInOrder, IsFaultOf}
 use Rattle.cf_class.specs.declared.class_file.ClassFile.{ClassFile}
 use Rattle.cf_class.specs.Content.{IsContent, IsClass}
 use Rattle.cf_class.specs.Calls.Contents.{HasContent}
-use Rattle.cf_class.proofs.ListLemmas.{all_mapped}
+use Rattle.jv_list.proofs.AllLemmas.{all_mapped}
 use Rattle.cf_class.proofs.CodesLemmas.{content_of, codes_are}
 use Rattle.cf_class.proofs.ContentLemmas.{IsDecoded, AreDecoded, content_there}
 use Rattle.cf_class.proofs.DecodedLemmas.{good_decoded}

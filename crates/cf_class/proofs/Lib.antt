@@ -1,4 +1,3 @@
-pub mod ListLemmas
 pub mod BodiesLemmas
 pub mod LoopLemmas
 pub mod NameLemmas

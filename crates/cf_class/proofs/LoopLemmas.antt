@@ -9,7 +9,7 @@ use Rattle.jv_list.proofs.PlaceLemmas.{take_with}
 use Rattle.cf_structure.specs.Raw.{RawCode}
 use Rattle.cf_code.specs.declared.code.Placed.{Placed}
 use Rattle.cf_class.specs.Calls.Contents.{HasContent, HaveContent, HaveBodies}
-use Rattle.cf_class.proofs.ListLemmas.{zip_push, zip_view, zip_viewed, beside}
+use Rattle.jv_list.proofs.ZipLemmas.{zip_push, zip_view, zip_viewed, beside}
 use Rattle.cf_class.proofs.BodiesLemmas.{have_front, have_behind}
 
 module _ {V A B : Type 0} (view : V → A) (R : A → B → Type 0) (xs : List V) where

@@ -12,7 +12,7 @@ use Rattle.cf_structure.specs.Spelled.{FitsBody, FitsAttribute, FitsMember, Fits
 use Rattle.cf_bodies.specs.Places.{codes}
 use Rattle.cf_bodies.specs.Bodies.{AreShort}
 use Rattle.cf_class.specs.Calls.Contents.{body_codes, attribute_codes, member_codes}
-use Rattle.cf_class.proofs.ListLemmas.{all_flat, all_unmapped}
+use Rattle.jv_list.proofs.AllLemmas.{all_flat, all_unmapped}
 use Rattle.cf_class.proofs.CodesLemmas.{content_of, codes_are}
 
 abbrev HasFewBytes : RawCode → Type 0

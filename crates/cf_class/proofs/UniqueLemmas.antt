@@ -24,7 +24,8 @@ use Rattle.cf_class.specs.declared.member.Member.{Member}
 use Rattle.cf_class.specs.declared.class_file.ClassFile.{ClassFile}
 use Rattle.cf_class.specs.Content.{IsTextNamed, IsClassNamed, IsSkippedContent, IsCodeContent, IsBodyContent}
 use Rattle.cf_class.specs.Content.{IsAttributeContent, IsMemberContent, IsContent}
-use Rattle.cf_class.proofs.ListLemmas.{one_beside, all_unit}
+use Rattle.jv_list.proofs.ZipLemmas.{one_beside}
+use Rattle.jv_list.proofs.AllLemmas.{all_unit}
 
 -- ---- parts that are the same, field by field
 

@@ -117,7 +117,7 @@ fn object_length(object: Object) -> usize
 
 /// How many bytes an instruction is written as at any pc, its padding as long as it is; the greatest number where they
 /// are more.
-pub(crate) fn instr_length(instr: &Instr) -> usize
+pub fn instr_length(instr: &Instr) -> usize
     ensures { (pc : ℕ) → result ≡ min (length (spelling pc instr.now)) (2 ^ 64 - 1) }
 {
     match instr {

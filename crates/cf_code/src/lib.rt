@@ -38,6 +38,7 @@ pub use instr::{Instr, put_instr, read_instr};
 pub use jump::{Condition, Equality, Jump};
 pub use kind_set::{KindSet, kinds};
 pub use laws::{code_decided, equality, no_code, one_beginning, one_code, one_fault, one_size};
+pub use length::instr_length;
 pub use local::{Local, LocalIndex};
 pub use number::{ArithOp, BitOp, Comparison, Conversion, Num, Number, ShiftOp, Whole};
 pub use object::Object;

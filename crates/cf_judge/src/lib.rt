@@ -18,4 +18,4 @@ pub use index::{Wanted, wrong_index};
 pub use laws::{form_decided, one_first, one_judgement, one_name, plain_class_decided};
 pub use member::MemberKind;
 pub use size::entry_size;
-pub use text::{Forms, Text};
+pub use text::{Forms, Text, name_of_units};

@@ -80,8 +80,8 @@ fn forms_of(name: &str) -> Forms
     }
 }
 
-/// The text of UTF-16 units, of which a surrogate that stands alone is none.
-fn name_of(alloc: Global, units: &[u16]) -> Mem<Option<Name>>
+/// The name whose UTF-16 units these are. None where a surrogate stands alone.
+pub fn name_of_units(alloc: Global, units: &[u16]) -> Mem<Option<Name>>
     ensures found { IfOk result (λ o. IfSome o (λ name. IsNameOf units.now name)) }
     ensures none { IfOk result (λ o. IfNone o ((name : list_of ℕ) → IsNameOf units.now name → ⊥)) }
 {
@@ -94,7 +94,7 @@ fn name_of(alloc: Global, units: &[u16]) -> Mem<Option<Name>>
 fn text_of(alloc: Global, units: &[u16], first: usize) -> Mem<Text>
     ensures { IfOk result (λ t. IsKnownText units.now first t) }
 {
-    let name = name_of(alloc, units)?;
+    let name = name_of_units(alloc, units)?;
     let forms = match &name {
         Some(name) => forms_of(name.as_str()),
         None => NO_FORMS,

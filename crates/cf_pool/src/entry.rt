@@ -3,7 +3,7 @@ use jv_base::List;
 
 /// An entry of the constant pool, or what stands at an index that has none. Indices into the pool are kept as they
 /// stand in the file, and not judged.
-#[derive(Debug, Drop)]
+#[derive(Debug, Drop, PartialEq, Eq)]
 pub enum PoolEntry {
     /// A text, by its UTF-16 units (4.4.7).
     Utf8(List<u16>),
@@ -38,7 +38,7 @@ pub enum PoolEntry {
 }
 
 /// The constant pool, with an element for each index, 0 too. It is empty where the count is 0.
-#[derive(Debug, Drop)]
+#[derive(Debug, Drop, PartialEq, Eq)]
 pub struct Pool {
     pub entries: List<PoolEntry>,
 }

@@ -10,7 +10,7 @@ use Rattle.cf_class.specs.declared.member.Member.{Member}
 use Rattle.cf_class.specs.declared.class_file.ClassFile.{ClassFile}
 use Rattle.cf_class.specs.Content.{IsBodyContent, IsAttributeContent, IsMemberContent, IsContent}
 use Rattle.cf_write.specs.Calls.Texts.{BodyFits, AttributeFits, AttributesFit, MemberFits, MembersFit, CodesFit}
-use Rattle.cf_write.proofs.ListLemmas.{zip_all}
+use Rattle.jv_list.proofs.ZipLemmas.{zip_all}
 
 module _ (pool : List PoolEntry) where
   body_fits : (r : RawBody) (b : Body) → IsBodyContent pool r b → BodyFits b

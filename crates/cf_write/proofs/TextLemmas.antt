@@ -24,7 +24,8 @@ use Rattle.cf_class.specs.Content.{row_of, IsTextNamed, IsClassNamed, IsSkippedC
 use Rattle.cf_class.specs.Content.{IsAttributeContent, IsMemberContent, IsContent}
 use Rattle.cf_write.specs.Calls.Texts.{named_text, row_text, skipped_text, code_text, body_text, attribute_text}
 use Rattle.cf_write.specs.Calls.Texts.{member_text, names_text, members_text, file_text}
-use Rattle.cf_write.proofs.ListLemmas.{zip_pieces, joined_same}
+use Rattle.jv_list.proofs.ZipLemmas.{zip_pieces}
+use Rattle.jv_list.proofs.AllLemmas.{joined_same}
 
 -- a count, and what it counts
 module _ {A B : Type 0} (R : A → B → Type 0) (f : A → List ℕ) (g : B → List ℕ)

@@ -3,6 +3,7 @@
 #![tactic(auto)]
 
 mod cut;
+mod described;
 mod escaped;
 mod fault;
 mod form;
@@ -18,6 +19,7 @@ mod spelling;
 mod types;
 mod value;
 
+pub use described::{descriptor_text, field_type_text};
 pub use fault::TextFault;
 pub use form::{is_any_method_name, is_class_name, is_field_descriptor, is_method_descriptor};
 pub use input::{Input, Part, Tree};

@@ -5,7 +5,7 @@ use crate::{Mem, Name, TryCopy};
 use std::alloc::Global;
 
 /// A method by its class, name and descriptor (JVM Specification SE 8, 4.3.3).
-#[derive(Debug, Drop)]
+#[derive(Debug, Drop, PartialEq, Eq)]
 pub struct MethodId {
     pub class: Name,
     pub name: Name,
@@ -31,7 +31,7 @@ impl TryCopy for MethodId {
 }
 
 /// A field by its class, name and descriptor (JVM Specification SE 8, 4.3.2).
-#[derive(Debug, Drop)]
+#[derive(Debug, Drop, PartialEq, Eq)]
 pub struct FieldId {
     pub class: Name,
     pub name: Name,
@@ -39,7 +39,7 @@ pub struct FieldId {
 }
 
 /// An instruction: a method, and the place of the instruction in the bytes of its code.
-#[derive(Debug, Drop)]
+#[derive(Debug, Drop, PartialEq, Eq)]
 pub struct Site {
     pub method: MethodId,
     pub pc: u16,
@@ -59,7 +59,7 @@ pub enum Kind {
 }
 
 /// One assertion: a kind of fault at an instruction.
-#[derive(Debug, Drop)]
+#[derive(Debug, Drop, PartialEq, Eq)]
 pub struct Goal {
     pub site: Site,
     pub kind: Kind,

@@ -17,3 +17,5 @@ pub mod DecidedLemmas
 pub mod FilterLemmas
 pub mod LastLemmas
 pub mod PositionLemmas
+pub mod ZipLemmas
+pub mod AllLemmas

@@ -10,7 +10,8 @@ use Rattle.tm_terms.specs.declared.sort.Sort.TheVariants.{Bool as Truth}
 use Rattle.tm_terms.specs.declared.op.TermId.{TermId}
 use Rattle.tm_terms.specs.declared.op.Op.{Op}
 use Rattle.tm_terms.specs.declared.op.Op.TheVariants.{Const, Not, And, Or, Equal, Sub, BitXor, Less, Below}
-use Rattle.tm_terms.specs.Words.{width_of, bit_number, signed_number}
+use Rattle.tm_terms.specs.Words.{width_of}
+use Rattle.jv_list.specs.Numbers.{bit_number, signed_number}
 use Rattle.tm_terms.specs.Terms.{term_sort, term_value, op_sort, Fits, AreTerms}
 use Rattle.tm_terms.specs.Rules.{IsKnown, AreOpposite, Replaces, named_of}
 use Rattle.tm_terms.proofs.TermLemmas.{value-below}

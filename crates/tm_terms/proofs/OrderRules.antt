@@ -6,7 +6,8 @@ use Rattle.tm_terms.specs.declared.sort.Sort.{Sort}
 use Rattle.tm_terms.specs.declared.op.TermId.{TermId}
 use Rattle.tm_terms.specs.declared.op.Op.{Op}
 use Rattle.tm_terms.specs.declared.op.Op.TheVariants.{And, Or, Equal, Add, Mul, BitAnd, BitOr, BitXor}
-use Rattle.tm_terms.specs.Words.{width_of, bit_number}
+use Rattle.tm_terms.specs.Words.{width_of}
+use Rattle.jv_list.specs.Numbers.{bit_number}
 use Rattle.tm_terms.specs.Terms.{term_value, op_sort, Fits, is_free}
 use Rattle.tm_terms.specs.Rules.{Replaces, named_of}
 

@@ -5,7 +5,7 @@ use Rattle.tm_terms.specs.declared.sort.Sort.TheVariants.{Bool as Truth}
 use Rattle.tm_terms.specs.declared.op.TermId.{TermId}
 use Rattle.tm_terms.specs.declared.op.Op.{Op}
 use Rattle.tm_terms.specs.declared.op.Op.TheVariants.{Not, And, Or, If, Equal}
-use Rattle.tm_terms.specs.Words.{bit_number}
+use Rattle.jv_list.specs.Numbers.{bit_number}
 use Rattle.tm_terms.specs.Terms.{term_sort, term_value, Fits}
 use Rattle.tm_terms.specs.Rules.{Replaces, HasNumber}
 use Rattle.tm_terms.proofs.SameLemmas.{truth-below}

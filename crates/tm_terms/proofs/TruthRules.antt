@@ -6,7 +6,7 @@ use Rattle.tm_terms.specs.declared.sort.Sort.TheVariants.{Bool as Truth}
 use Rattle.tm_terms.specs.declared.op.TermId.{TermId}
 use Rattle.tm_terms.specs.declared.op.Op.{Op}
 use Rattle.tm_terms.specs.declared.op.Op.TheVariants.{Not, And, Or, If, Equal}
-use Rattle.tm_terms.specs.Words.{bit_number}
+use Rattle.jv_list.specs.Numbers.{bit_number}
 use Rattle.tm_terms.specs.Terms.{term_sort, term_value, Fits, AreTerms}
 use Rattle.tm_terms.specs.Rules.{IsSame, HasNumber}
 use Rattle.tm_terms.proofs.SameLemmas.{same-by, truth-below, fits-stands}

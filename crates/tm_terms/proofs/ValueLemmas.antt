@@ -8,7 +8,7 @@ use Rattle.jv_list.proofs.PlaceLemmas.{split_with, take_with}
 use Rattle.tm_terms.specs.declared.sort.Sort.{Sort}
 use Rattle.tm_terms.specs.declared.sort.Sort.TheVariants.{Bool as Truth}
 use Rattle.tm_terms.specs.declared.op.Op.{Op}
-use Rattle.tm_terms.specs.Words.{bit_number}
+use Rattle.jv_list.specs.Numbers.{bit_number}
 use Rattle.tm_terms.specs.Operations.{operands_of, AreBelow}
 use Rattle.tm_terms.specs.Equations.{number_by}
 use Rattle.tm_terms.specs.Terms.{is_free, free_count, term_sort, term_value, op_sort, op_value, AreTerms}

@@ -2,8 +2,9 @@
 use Rattle.std.specs.Prelude.{◌+◌, ◌-◌, ◌*◌, ◌/◌, ◌%◌, ◌^◌, ◌==◌, ℕ, min, max, nat_lt, int_lt, if◌then◌else◌}
 use Rattle.std.specs.Prelude.{bit_and, bit_or, bit_xor}
 use Rattle.std.specs.Int.{int_shr}
-use Rattle.tm_terms.specs.Words.{width_of, bit_number, signed_number, wrapped_number}
-use Rattle.tm_terms.specs.Quotients.{quotient_of, remainder_of}
+use Rattle.tm_terms.specs.Words.{width_of}
+use Rattle.jv_list.specs.Numbers.{bit_number, signed_number, wrapped_number}
+use Rattle.jv_list.specs.Numbers.{quotient_of, remainder_of}
 use Rattle.tm_terms.specs.Operations.{operands_of, first_of, second_of, third_of, sort_over}
 use Rattle.tm_terms.specs.declared.sort.Sort.{Sort}
 use Rattle.tm_terms.specs.declared.sort.Sort.TheVariants.{Bool as Truth}

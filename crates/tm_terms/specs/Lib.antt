@@ -2,7 +2,6 @@ pub mod Equations
 pub mod Laws
 pub mod Listed
 pub mod Operations
-pub mod Quotients
 pub mod Rules
 pub mod Sharing
 pub mod Terms

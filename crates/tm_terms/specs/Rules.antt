@@ -5,7 +5,8 @@ use Rattle.tm_terms.specs.declared.op.TermId.{TermId}
 use Rattle.tm_terms.specs.declared.op.Operands.{Operands}
 use Rattle.tm_terms.specs.declared.op.Op.{Op}
 use Rattle.tm_terms.specs.declared.numbers.Given.{Given}
-use Rattle.tm_terms.specs.Words.{width_of, bit_number}
+use Rattle.tm_terms.specs.Words.{width_of}
+use Rattle.jv_list.specs.Numbers.{bit_number}
 use Rattle.tm_terms.specs.Operations.{operands_of, first_of, second_of, third_of}
 use Rattle.tm_terms.specs.Equations.{named_number}
 use Rattle.tm_terms.specs.Terms.{is_free, free_count, term_sort, term_value, op_sort, op_value, Fits}

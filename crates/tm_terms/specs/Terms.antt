@@ -1,7 +1,7 @@
 -- The sort and the value of each term of a bank. A bank is the list of its operations; a term is a place in it.
 use Rattle.std.specs.Prelude.{◌≡◌, ◌+◌, ◌==◌, ℕ, List, [], ◌∷◌, ◌++◌, length, take, reverse, slice_get, slice_index, Some}
 use Rattle.std.specs.Prelude.{Bool, true, false, if◌then◌else◌}
-use Rattle.tm_terms.specs.Words.{bit_number}
+use Rattle.jv_list.specs.Numbers.{bit_number}
 use Rattle.tm_terms.specs.Operations.{operands_of, first_of, second_of, third_of, AreBelow, SortsFit}
 use Rattle.tm_terms.specs.Equations.{sort_by, number_by}
 use Rattle.tm_terms.specs.declared.sort.Sort.{Sort}

@@ -1,8 +1,9 @@
 // The number that each operation names, computed.
 ghost use Rattle.std.specs.Prelude.{◌≡◌, ◌+◌, ◌-◌, ◌*◌, ◌/◌, ◌%◌, ◌^◌, ◌<◌, int_lt, nat_lt};
 ghost use Rattle.std.specs.Int.{int_shr};
-ghost use Rattle.tm_terms.specs.Words.{width_of, signed_number, wrapped_number, bit_number};
-ghost use Rattle.tm_terms.specs.Quotients.{quotient_of, remainder_of};
+ghost use Rattle.tm_terms.specs.Words.{width_of};
+ghost use Rattle.jv_list.specs.Numbers.{signed_number, wrapped_number, bit_number};
+ghost use Rattle.jv_list.specs.Numbers.{quotient_of, remainder_of};
 
 use crate::op::Op;
 use crate::sort::Sort;

@@ -1,6 +1,7 @@
 // Words as numbers, and as signed ones.
 ghost use Rattle.std.specs.Prelude.{◌≡◌, ◌+◌, ◌-◌, ◌%◌, ◌^◌, ◌<◌, ◌*◌};
-ghost use Rattle.tm_terms.specs.Words.{width_of, signed_number, wrapped_number};
+ghost use Rattle.tm_terms.specs.Words.{width_of};
+ghost use Rattle.jv_list.specs.Numbers.{signed_number, wrapped_number};
 
 use crate::sort::Sort;
 

@@ -1,6 +1,6 @@
 -- What moving the bits of a word does to its number.
 use Rattle.std.specs.Prelude.{◌+◌, ◌-◌, ◌*◌, ◌/◌, ◌%◌, ◌^◌, ℕ, Bool, if◌then◌else◌}
-use Rattle.bb_arith.specs.Words.{bit_number}
+use Rattle.jv_list.specs.Numbers.{bit_number}
 
 -- a number of n bits moved down by p places, with a bit in the places above, or moved up
 abbrev pub moved_number : Bool → ℕ → Bool → ℕ → ℕ → ℕ

@@ -8,9 +8,10 @@ use Rattle.cn_clauses.specs.Literals.{lit_value}
 use Rattle.cn_clauses.specs.Extension.{Grows}
 use Rattle.bb_gates.specs.Growth.{AreOf}
 use Rattle.bb_gates.specs.Values.{both, either, differ}
-use Rattle.bb_arith.specs.Words.{bit_number, number_of, IsWordGate}
-use Rattle.tm_terms.specs.Words.{signed_number, wrapped_number}
-use Rattle.tm_terms.specs.Quotients.{quotient_of, remainder_of}
+use Rattle.bb_arith.specs.Words.{number_of, IsWordGate}
+use Rattle.jv_list.specs.Numbers.{bit_number}
+use Rattle.jv_list.specs.Numbers.{signed_number, wrapped_number}
+use Rattle.jv_list.specs.Numbers.{quotient_of, remainder_of}
 use Rattle.bb_terms.specs.declared.arithmetic.WordOp.{WordOp}
 use Rattle.bb_terms.specs.declared.arithmetic.WordOp.TheVariants.{Add, Sub, Mul, Div, Rem, Shl, Shr, Ushr}
 use Rattle.bb_terms.specs.declared.bits.BitOp.{BitOp}

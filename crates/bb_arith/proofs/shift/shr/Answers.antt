@@ -3,7 +3,8 @@ use Rattle.std.specs.Int.{int_shr}
 use Rattle.std.proofs.lemmas.Result.{IfOk-weaker}
 use Rattle.std.proofs.lemmas.Nat.{mod_below, pow_pos}
 use Rattle.cn_clauses.specs.declared.lit.Lit.{Lit}
-use Rattle.bb_arith.specs.Words.{number_of, signed_of, wrapped_number, IsWordGate}
+use Rattle.bb_arith.specs.Words.{number_of, signed_of, IsWordGate}
+use Rattle.jv_list.specs.Numbers.{wrapped_number}
 use Rattle.bb_arith.proofs.PowerLemmas.{power_of}
 use Rattle.bb_arith.proofs.SumLemmas.{word_same}
 use Rattle.bb_arith.proofs.SignedShiftLemmas.{signed_shift_at}

@@ -1,6 +1,7 @@
 use Rattle.std.proofs.Common.{rules, ◌+◌, ◌-◌, ◌%◌, ◌^◌, true}
 use Rattle.std.proofs.lemmas.Result.{IfOk-weaker}
-use Rattle.bb_arith.specs.Words.{bit_number, number_of, IsWordGate}
+use Rattle.bb_arith.specs.Words.{number_of, IsWordGate}
+use Rattle.jv_list.specs.Numbers.{bit_number}
 use Rattle.bb_arith.proofs.SumLemmas.{difference, word_same}
 use Rattle.bb_arith.proofs.sum.sub.Goals as goal
 

@@ -2,7 +2,7 @@ use Rattle.std.proofs.Common.{◌%◌, ℤ, ap, sym, ◌∙◌}
 use Rattle.std.proofs.lemmas.Result.{IfOk-weaker}
 use Rattle.std.specs.Int.{int_shr}
 use Rattle.bb_arith.specs.Words.{number_of, signed_of, IsWordGate, wrapped_number as wrapped}
-use Rattle.tm_terms.specs.Quotients.{quotient_of, remainder_of}
+use Rattle.jv_list.specs.Numbers.{quotient_of, remainder_of}
 use Rattle.bb_terms.specs.Calls.Words.{arithmetic_value}
 use Rattle.bb_terms.specs.declared.arithmetic.WordOp.{WordOp}
 use Rattle.bb_terms.proofs.ArithmeticLemmas.{signed_two, signed_one, gate_told}

@@ -1,7 +1,8 @@
 use Rattle.std.proofs.Common.{◌≡◌, ◌≤◌, ◌-◌, ℕ, List, suc, length, get_or, ap, sym, subst, ◌∙◌, arith}
 use Rattle.std.proofs.lemmas.Result.{IfOk-weaker}
 use Rattle.cn_clauses.specs.declared.lit.Lit.{Lit}
-use Rattle.tm_terms.specs.Words.{width_of, signed_number, wrapped_number}
+use Rattle.tm_terms.specs.Words.{width_of}
+use Rattle.jv_list.specs.Numbers.{signed_number, wrapped_number}
 use Rattle.tm_terms.specs.Terms.{term_sort, term_value}
 use Rattle.bb_terms.specs.Calls.Words.{IsLonger}
 use Rattle.bb_terms.specs.Calls.Terms.{IsTermWord}

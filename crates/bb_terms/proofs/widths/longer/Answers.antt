@@ -4,7 +4,8 @@ use Rattle.cn_clauses.specs.declared.lit.Lit.{Lit}
 use Rattle.cn_clauses.specs.declared.formula.Formula.{Formula}
 use Rattle.cn_clauses.specs.Literals.{lit_value}
 use Rattle.bb_gates.specs.Growth.{AreOf}
-use Rattle.bb_arith.specs.Words.{bit_number, number_of}
+use Rattle.bb_arith.specs.Words.{number_of}
+use Rattle.jv_list.specs.Numbers.{bit_number}
 use Rattle.bb_terms.proofs.WordLemmas.{longer_value, word_push}
 use Rattle.bb_terms.proofs.widths.longer.Goals as goal
 

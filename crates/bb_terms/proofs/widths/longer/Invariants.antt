@@ -3,7 +3,8 @@ use Rattle.std.proofs.Common.{◌≡◌, ◌≤◌, ◌+◌, ◌-◌, ◌*◌, �
 use Rattle.cn_clauses.specs.declared.formula.Formula.{Formula}
 use Rattle.cn_clauses.specs.Literals.{lit_value}
 use Rattle.bb_gates.specs.Growth.{AreOf}
-use Rattle.bb_arith.specs.Words.{bit_number, number_of}
+use Rattle.bb_arith.specs.Words.{number_of}
+use Rattle.jv_list.specs.Numbers.{bit_number}
 use Rattle.bb_terms.proofs.widths.longer.Given as goal
 
 abbrev pub invariant-loop-fill : goal.invariant-loop-fill

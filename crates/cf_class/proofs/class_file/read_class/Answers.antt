@@ -4,7 +4,7 @@ use Rattle.std.proofs.lemmas.List.Elements.{All-from_get_or}
 use Rattle.cf_pool.specs.Laws.{IsBytes}
 use Rattle.cf_structure.specs.Views.{file_of}
 use Rattle.cf_class.specs.Calls.Contents.{class_codes}
-use Rattle.cf_class.proofs.ListLemmas.{all_beside}
+use Rattle.jv_list.proofs.ZipLemmas.{all_beside}
 use Rattle.cf_class.proofs.CodesLemmas.{bodies_are, bodies_there}
 use Rattle.cf_class.proofs.ContentLemmas.{content_there}
 use Rattle.cf_class.proofs.RefusalLemmas.{of_structure, of_names, of_bodies, no_class}

@@ -1,7 +1,6 @@
 -- Lists beside each other.
 use Rattle.std.proofs.Common.{◌≡◌, List, [], ◌∷◌, ◌++◌, map, refl, subst, ap, ◌∙◌, Contains, inl, inr}
 use Rattle.std.specs.List.{flat_map, AllZip, AllByRecursion}
-use Rattle.jv_list.proofs.FirstLemmas.{all_front, all_append}
 use Rattle.jv_list.proofs.MemberLemmas.{none_member, member_cases}
 
 module _ {A B : Type 0} (R : A → B → Type 0) where
@@ -49,6 +48,23 @@ module _ {A B : Type 0} (R : A → B → Type 0) where
   all_beside (x ∷ xs) [] h = absurd h
   all_beside (x ∷ xs) (y ∷ ys) h = ((y, h.0), all_beside xs ys h.1)
 
+  -- pieces that are the same of two elements beside each other
+  pub zip_pieces : {C : Type 0} (f : A → List C) (g : B → List C) → ((x : A) (y : B) → R x y → f x ≡ g y)
+      → (xs : List A) (ys : List B) → AllZip R xs ys
+      → flat_map f xs ≡ flat_map g ys
+  zip_pieces f g same [] [] h = refl
+  zip_pieces f g same [] (y ∷ ys) h = absurd h
+  zip_pieces f g same (x ∷ xs) [] h = absurd h
+  zip_pieces f g same (x ∷ xs) (y ∷ ys) h = rw (same x y h.0, zip_pieces f g same xs ys h.1) refl
+
+  -- what holds of each element that stands beside another
+  pub zip_all : (P : B → Type 0) → ((x : A) (y : B) → R x y → P y) → (xs : List A) (ys : List B) → AllZip R xs ys
+      → AllByRecursion P ys
+  zip_all P each [] [] h = tt
+  zip_all P each [] (y ∷ ys) h = absurd h
+  zip_all P each (x ∷ xs) [] h = absurd h
+  zip_all P each (x ∷ xs) (y ∷ ys) h = (each x y h.0, zip_all P each xs ys h.1)
+
 -- another view of the first list
 module _ {V A B : Type 0} (view : V → A) (R : A → B → Type 0) where
   pub zip_viewed : (xs : List V) (ys : List B) → AllZip (λ v y. R (view v) y) xs ys → AllZip R (map view xs) ys
@@ -62,44 +78,3 @@ module _ {V A B : Type 0} (view : V → A) (R : A → B → Type 0) where
   zip_view [] (y ∷ ys) h = absurd h
   zip_view (x ∷ xs) [] h = absurd h
   zip_view (x ∷ xs) (y ∷ ys) h = (h.0, zip_view xs ys h.1)
-
-module _ {A : Type 0} (P : A → Type 0) where
-  pub all_behind : (xs ys : List A) → AllByRecursion P (xs ++ ys) → AllByRecursion P ys
-  all_behind [] ys h = h
-  all_behind (x ∷ xs) ys h = all_behind xs ys h.1
-
-  -- what holds of the elements of all parts holds of those of each
-  pub all_parts : {B : Type 0} (parts : B → List A) (bs : List B) → AllByRecursion P (flat_map parts bs)
-      → AllByRecursion (λ b. AllByRecursion P (parts b)) bs
-  all_parts parts [] h = tt
-  all_parts parts (b ∷ bs) h =
-      let others : List A = flat_map parts bs in
-      (all_front P (parts b) others h, all_parts parts bs (all_behind (parts b) others h))
-
-  -- and the other way round, where what holds of a part makes it hold of its elements
-  pub all_flat : {B : Type 0} (F : B → Type 0) (parts : B → List A) → ((b : B) → F b → AllByRecursion P (parts b))
-      → (bs : List B) → AllByRecursion F bs
-      → AllByRecursion P (flat_map parts bs)
-  all_flat F parts each [] h = tt
-  all_flat F parts each (b ∷ bs) h =
-      all_append P (parts b) (flat_map parts bs) (each b h.0) (all_flat F parts each bs h.1)
-
-  pub all_mapped : {B : Type 0} (f : B → A) (bs : List B) → AllByRecursion (λ b. P (f b)) bs
-      → AllByRecursion P (map f bs)
-  all_mapped f [] h = tt
-  all_mapped f (b ∷ bs) h = (h.0, all_mapped f bs h.1)
-
-  pub all_unmapped : {B : Type 0} (f : B → A) (bs : List B) → AllByRecursion P (map f bs)
-      → AllByRecursion (λ b. P (f b)) bs
-  all_unmapped f [] h = tt
-  all_unmapped f (b ∷ bs) h = (h.0, all_unmapped f bs h.1)
-
-  -- what follows of each element
-  pub all_from : (Q : A → Type 0) (xs : List A) → AllByRecursion (λ x. P x → Q x) xs → AllByRecursion P xs
-      → AllByRecursion Q xs
-  all_from Q [] f h = tt
-  all_from Q (x ∷ xs) f h = (f.0 h.0, all_from Q xs f.1 h.1)
-
-pub all_unit : {A : Type 0} (xs : List A) → AllByRecursion (λ x. Unit {0}) xs
-all_unit [] = tt
-all_unit (x ∷ xs) = (tt, all_unit xs)

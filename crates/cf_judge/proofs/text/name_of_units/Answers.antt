@@ -1,6 +1,6 @@
 use Rattle.std.proofs.Common.{sym, ◌∙◌}
 use Rattle.cf_judge.proofs.FormLemmas.{paired_name, no_name}
-use Rattle.cf_judge.proofs.text.name_of.Goals as goal
+use Rattle.cf_judge.proofs.text.name_of_units.Goals as goal
 
 pub returns-in-Ok-clause-found : goal.returns-in-Ok-clause-found
 returns-in-Ok-clause-found c =
