@@ -1,35 +1,29 @@
 -- Arithmetic of words as the equations of terms tell it.
-use Rattle.std.proofs.Common.{◌≡◌, ◌<◌, ◌+◌, ◌-◌, ◌*◌, ◌^◌, ◌%◌, ◌/◌, ℕ, ℤ, pos, negsuc, Bool, true, false, List}
-use Rattle.std.proofs.Common.{length, refl, sym, ap, ◌∙◌}
+use Rattle.std.proofs.Common.{◌≡◌, ◌+◌, ◌-◌, ◌*◌, ◌^◌, ◌%◌, ℕ, ℤ, Bool, true, false, List}
+use Rattle.std.proofs.Common.{length, refl, ap, ◌∙◌}
 use Rattle.std.proofs.Math.Nat.{mod-mod}
 use Rattle.std.specs.Prelude.{nat_lt, int_lt}
 use Rattle.cn_clauses.specs.declared.lit.Lit.{Lit}
 use Rattle.cn_clauses.specs.declared.formula.Formula.{Formula}
-use Rattle.bb_arith.specs.Words.{number_of, signed_of, IsWordGate, wrapped_number as wrapped}
+use Rattle.bb_arith.specs.Words.{number_of, signed_of, IsWordGate}
 use Rattle.jv_list.specs.Numbers.{signed_number, wrapped_number}
 use Rattle.bb_terms.specs.declared.arithmetic.WordOp.{WordOp}
 use Rattle.bb_terms.specs.declared.arithmetic.WordOp.TheVariants.{Add, Sub, Mul, Div, Rem, Shl, Shr, Ushr}
 use Rattle.bb_terms.specs.Calls.Words.{IsWord, arithmetic_number, arithmetic_value, is_in_order}
 use Rattle.bb_terms.proofs.NumberLemmas.{reduced}
 
-same_wrapped : (n : ℕ) (z : ℤ) → wrapped n z ≡ wrapped_number n z
-same_wrapped n (pos k) = refl
-same_wrapped n (negsuc k) = refl
-
 -- an operation on the signed numbers of two words
 pub signed_two : (f : ℤ → ℤ → ℤ) (n : ℕ) (a b : List Lit) → length a ≡ n → length b ≡ n → (w : ℕ → Bool)
-    → wrapped n (f (signed_of w a) (signed_of w b))
+    → wrapped_number n (f (signed_of w a) (signed_of w b))
     ≡ wrapped_number n (f (signed_number n (number_of w a)) (signed_number n (number_of w b)))
 signed_two f n a b wide_a wide_b w =
-    ap (λ (m : ℕ). wrapped n (f (signed_number m (number_of w a)) (signed_of w b))) wide_a
-    ∙ ap (λ (m : ℕ). wrapped n (f (signed_number n (number_of w a)) (signed_number m (number_of w b)))) wide_b
-    ∙ same_wrapped n (f (signed_number n (number_of w a)) (signed_number n (number_of w b)))
+    ap (λ (m : ℕ). wrapped_number n (f (signed_number m (number_of w a)) (signed_of w b))) wide_a
+    ∙ ap (λ (m : ℕ). wrapped_number n (f (signed_number n (number_of w a)) (signed_number m (number_of w b)))) wide_b
 
 pub signed_one : (f : ℤ → ℤ) (n : ℕ) (a : List Lit) → length a ≡ n → (w : ℕ → Bool)
-    → wrapped n (f (signed_of w a)) ≡ wrapped_number n (f (signed_number n (number_of w a)))
+    → wrapped_number n (f (signed_of w a)) ≡ wrapped_number n (f (signed_number n (number_of w a)))
 signed_one f n a wide w =
-    ap (λ (m : ℕ). wrapped n (f (signed_number m (number_of w a)))) wide
-    ∙ same_wrapped n (f (signed_number n (number_of w a)))
+    ap (λ (m : ℕ). wrapped_number n (f (signed_number m (number_of w a)))) wide
 
 pub gate_told : (old new : Formula) (lits : List Lit) (value other : (ℕ → Bool) → ℕ)
     → ((w : ℕ → Bool) → value w ≡ other w) → IsWordGate old new lits value → IsWordGate old new lits other

@@ -2,7 +2,7 @@
 use Rattle.std.proofs.Common.{◌≡◌, ◌<◌, ◌+◌, ◌*◌, ◌^◌, ◌%◌, ◌/◌, ◌==◌, ℕ, Bool, false, true, List, [], ◌∷◌, length}
 use Rattle.std.proofs.Common.{map, zero, suc, refl, sym, ap, ◌∙◌, arith}
 use Rattle.cn_clauses.specs.declared.lit.Lit.{Lit}
-use Rattle.cn_clauses.specs.Literals.{variable_of, lit_value}
+use Rattle.cn_clauses.specs.Literals.{lit_value}
 use Rattle.cn_clauses.specs.Satisfaction.{Agrees, IsClauseBelow}
 use Rattle.cn_clauses.specs.Laws.{ValueAgrees}
 use Rattle.bb_arith.specs.Words.{number_of}

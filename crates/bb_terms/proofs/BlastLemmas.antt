@@ -11,7 +11,7 @@ use Rattle.std.proofs.lemmas.List.Sorted.{IsPermutation-refl}
 use Rattle.cn_clauses.specs.declared.lit.Lit.{Lit}
 use Rattle.cn_clauses.specs.declared.formula.Formula.{Formula}
 use Rattle.cn_clauses.specs.Literals.{lit_value}
-use Rattle.cn_clauses.specs.Satisfaction.{clause_holds, all_hold, Satisfies, Agrees}
+use Rattle.cn_clauses.specs.Satisfaction.{clause_holds, Satisfies, Agrees}
 use Rattle.cn_clauses.specs.Formulas.{variables_of, clauses_of}
 use Rattle.cn_clauses.specs.Laws.{ContinuesKeeps}
 use Rattle.bb_arith.specs.Words.{number_of}
@@ -20,8 +20,8 @@ use Rattle.tm_terms.specs.declared.op.Op.{Op}
 use Rattle.tm_terms.specs.declared.op.Op.TheVariants.{Free}
 use Rattle.tm_terms.specs.declared.sort.Sort.{Sort}
 use Rattle.tm_terms.specs.declared.sort.Sort.TheVariants.{Bool as Truth}
-use Rattle.tm_terms.specs.Words.{width_of, bit_number as bit}
-use Rattle.tm_terms.specs.Terms.{is_free, free_count, term_sort, term_value, AreTerms, Continues}
+use Rattle.tm_terms.specs.Words.{width_of}
+use Rattle.tm_terms.specs.Terms.{is_free, free_count, term_sort, AreTerms, Continues}
 use Rattle.tm_terms.specs.Laws.{SortStands, FreeValue, SortKept, ValueKept}
 use Rattle.bb_terms.specs.Tables.{HasWord, ShowsValuation, IsTable, ExtendsOnce, IsExact}
 use Rattle.bb_terms.specs.Blasts.{AreUnits, Blasts}
@@ -70,7 +70,7 @@ abbrev numbers_at : (ℕ → ℕ) → ℕ → List Op → List ℕ
 numbers_at number i [] = []
 numbers_at number i (op ∷ ops) = front (is_free op) (number i) (numbers_at number (suc i) ops)
 
-behind : (t : Bool) (x n : ℕ) (rest : List ℕ) → slice_index (front t x rest) (bit t + n) ≡ slice_index rest n
+behind : (t : Bool) (x n : ℕ) (rest : List ℕ) → slice_index (front t x rest) (bit_number t + n) ≡ slice_index rest n
 behind true x n rest = let next : 1 + n ≡ suc n = omega arith in ap (slice_index (x ∷ rest)) next
 behind false x n rest = let same : 0 + n ≡ n = omega arith in ap (slice_index rest) same
 

@@ -4,14 +4,13 @@ use Rattle.std.proofs.Common.{◌∷◌, ◌++◌, length, set, slice_get, Optio
 use Rattle.std.proofs.Common.{refl, sym, ap, ◌∙◌, subst, arith, inl, inr}
 use Rattle.std.proofs.lemmas.Bool.{cases_Bool, cases_lt, eqb-true, eq-eqb}
 use Rattle.bb_terms.specs.Calls.Terms.{AreReady, IsReadyAt}
-use Rattle.std.proofs.lemmas.Option.{same_Some, none-some, slice_get_within}
+use Rattle.std.proofs.lemmas.Option.{same_Some, none-some}
 use Rattle.std.proofs.lemmas.List.{length-set}
-use Rattle.jv_list.proofs.PlaceLemmas.{slice_get-set_same, slice_get-set_other, slice_get-push_other}
+use Rattle.jv_list.proofs.PlaceLemmas.{slice_get-set_same, slice_get-set_other}
 use Rattle.cn_clauses.specs.declared.lit.Lit.{Lit}
 use Rattle.tm_terms.specs.declared.op.Op.{Op}
 use Rattle.tm_terms.specs.declared.op.Operands.{Operands}
 use Rattle.tm_terms.specs.declared.op.Operands.TheVariants.{Nothing, One, Two, Three}
-use Rattle.tm_terms.specs.declared.op.TermId.{TermId}
 use Rattle.tm_terms.specs.Operations.{operands_of, AreBelow}
 use Rattle.tm_terms.specs.Terms.{AreTerms}
 use Rattle.tm_terms.specs.Laws.{FitsStands}

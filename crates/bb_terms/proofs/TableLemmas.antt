@@ -1,22 +1,19 @@
 -- A table that gets one more word.
-use Rattle.std.proofs.Common.{◌≡◌, ◌<◌, ◌≤◌, ◌^◌, ◌==◌, ℕ, Bool, false, true, List, [], ◌∷◌, length, slice_get}
-use Rattle.std.proofs.Common.{Option, Some, None, zero, suc, set, ◌++◌, ◌⊎◌, refl, sym, ap, ◌∙◌, subst, arith, inl}
+use Rattle.std.proofs.Common.{◌≡◌, ◌<◌, ◌≤◌, ◌^◌, ◌==◌, ℕ, Bool, false, List, length, slice_get}
+use Rattle.std.proofs.Common.{Option, Some, set, refl, sym, ap, ◌∙◌, subst, arith, inl}
 use Rattle.std.proofs.Common.{inr}
-use Rattle.std.proofs.Common.{true≢false, map}
+use Rattle.std.proofs.Common.{true≢false}
 use Rattle.std.proofs.lemmas.Option.{same_Some}
 use Rattle.std.proofs.lemmas.Bool.{cases_Bool, eqb-true, eq-eqb}
 use Rattle.jv_list.proofs.PlaceLemmas.{slice_get-set_same, slice_get-set_other}
-use Rattle.std.proofs.lemmas.List.Elements.{All-from_recursion, recursion_from_All, All-weaker}
 use Rattle.cn_clauses.specs.declared.lit.Lit.{Lit}
 use Rattle.cn_clauses.specs.declared.formula.Formula.{Formula}
-use Rattle.cn_clauses.specs.Literals.{variable_of, lit_value}
 use Rattle.cn_clauses.specs.Satisfaction.{Satisfies, Agrees}
 use Rattle.cn_clauses.specs.Formulas.{variables_of, clauses_of}
-use Rattle.cn_clauses.specs.Extension.{Continues, Extends, IsExtension, Grows}
+use Rattle.cn_clauses.specs.Extension.{Continues}
 use Rattle.cn_clauses.specs.Laws.{ContinuesItself, ContinuesThrough, ContinuesKeeps, ValueAgrees}
 use Rattle.bb_gates.specs.Growth.{AreOf, IsConservative}
 use Rattle.bb_arith.specs.Words.{number_of}
-use Rattle.jv_list.specs.Numbers.{bit_number}
 use Rattle.tm_terms.specs.declared.op.Op.{Op}
 use Rattle.tm_terms.specs.declared.op.Op.TheVariants.{Free}
 use Rattle.tm_terms.specs.declared.sort.Sort.{Sort}

@@ -1,5 +1,5 @@
 -- Words of terms, from the words of their operands.
-use Rattle.std.proofs.Common.{◌≡◌, ◌<◌, ◌≤◌, ◌+◌, ◌-◌, ◌*◌, ◌^◌, ◌%◌, ◌==◌, ℕ, ℤ, pos, negsuc, zero, suc, Bool, true}
+use Rattle.std.proofs.Common.{◌≡◌, ◌<◌, ◌≤◌, ◌+◌, ◌-◌, ◌*◌, ◌^◌, ◌%◌, ◌==◌, ℕ, pos, negsuc, zero, suc, Bool, true}
 use Rattle.std.proofs.Common.{false, not, List, [], ◌∷◌}
 use Rattle.std.proofs.Common.{length, take, get_or, nat_lt, Option, refl, sym, ap, ◌∙◌, subst, arith, inl, inr}
 use Rattle.std.proofs.Common.{if◌then◌else◌}
@@ -11,7 +11,7 @@ use Rattle.std.proofs.lemmas.Bool.{lt-ltb, ltb-true, cases_Bool}
 use Rattle.std.proofs.lemmas.List.{length-take-le, take_all}
 use Rattle.cn_clauses.specs.declared.lit.Lit.{Lit}
 use Rattle.cn_clauses.specs.declared.formula.Formula.{Formula}
-use Rattle.cn_clauses.specs.Literals.{variable_of, opposite_of, lit_value}
+use Rattle.cn_clauses.specs.Literals.{opposite_of, lit_value}
 use Rattle.cn_clauses.specs.Formulas.{variables_of}
 use Rattle.cn_clauses.specs.Laws.{OppositeValue, OppositeVariable, ExtendsItself}
 use Rattle.bb_gates.specs.Growth.{AreOf}
@@ -19,7 +19,7 @@ use Rattle.bb_arith.specs.Words.{number_of}
 use Rattle.jv_list.specs.Numbers.{bit_number}
 use Rattle.bb_terms.specs.Calls.Words.{IsWord, IsLonger, chosen_number}
 use Rattle.bb_terms.specs.Calls.Terms.{IsTermWord}
-use Rattle.bb_terms.specs.Tables.{HasWord, HasSome, ShowsValuation, IsTable}
+use Rattle.bb_terms.specs.Tables.{HasWord, IsTable}
 use Rattle.tm_terms.specs.declared.op.Op.{Op}
 use Rattle.tm_terms.specs.Words.{width_of}
 use Rattle.jv_list.specs.Numbers.{signed_number, wrapped_number}

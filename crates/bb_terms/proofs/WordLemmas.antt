@@ -1,5 +1,5 @@
 -- Words that are made a literal at a time.
-use Rattle.std.proofs.Common.{◌≡◌, ◌<◌, ◌≤◌, ◌+◌, ◌*◌, ◌^◌, ◌%◌, ◌/◌, ◌==◌, ℕ, Bool, true, false, not, ◌||◌, List, []}
+use Rattle.std.proofs.Common.{◌≡◌, ◌<◌, ◌≤◌, ◌+◌, ◌*◌, ◌^◌, ◌==◌, ℕ, Bool, true, false, not, ◌||◌, List, []}
 use Rattle.std.proofs.Common.{◌∷◌, ◌++◌, length}
 use Rattle.std.proofs.Common.{inl, inr, take, get_or, refl, sym, ap, ◌∙◌, arith, zero, suc, subst, if◌then◌else◌}
 use Rattle.std.proofs.lemmas.List.{length-append, take_all, length-take-le}
@@ -7,16 +7,15 @@ use Rattle.std.proofs.lemmas.List.Elements.{All-from_recursion, recursion_from_A
 use Rattle.cn_clauses.specs.declared.lit.Lit.{Lit}
 use Rattle.cn_clauses.specs.declared.formula.Formula.{Formula}
 use Rattle.cn_clauses.specs.Literals.{variable_of, opposite_of, lit_value}
-use Rattle.cn_clauses.specs.Satisfaction.{Satisfies}
-use Rattle.cn_clauses.specs.Formulas.{variables_of, clauses_of}
+use Rattle.cn_clauses.specs.Formulas.{variables_of}
 use Rattle.cn_clauses.specs.Extension.{Extends, IsGate, IsFresh}
-use Rattle.std.specs.Int.Bits.{bit_and, bit_xor, xor_self, xor_add_and}
+use Rattle.std.specs.Int.Bits.{bit_xor, xor_self, xor_add_and}
 use Rattle.std.proofs.lemmas.Nat.{and_le_l, and_le_r}
 use Rattle.std.proofs.lemmas.Bool.{eqb-true, eq-eqb, cases_Bool}
 use Rattle.cn_clauses.specs.Laws.{ExtendsThrough, OppositeValue, OppositeVariable}
 use Rattle.bb_gates.specs.Values.{chosen, of_three, of_two, any_of}
 use Rattle.bb_gates.specs.Growth.{AreOf, IsConservative}
-use Rattle.bb_arith.specs.Words.{number_of, IsWordGate}
+use Rattle.bb_arith.specs.Words.{number_of}
 use Rattle.jv_list.specs.Numbers.{bit_number}
 use Rattle.bb_terms.specs.declared.bits.BitOp.{BitOp}
 use Rattle.bb_terms.specs.declared.bits.BitOp.TheVariants.{Xor}

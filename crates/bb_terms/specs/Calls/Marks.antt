@@ -1,5 +1,5 @@
 -- What the private functions that mark a cone ensure.
-use Rattle.std.specs.Prelude.{◌≡◌, ◌<◌, ◌≤◌, ◌+◌, ◌⊎◌, ℕ, Bool, true, List, length, slice_get, Option, Some}
+use Rattle.std.specs.Prelude.{◌≡◌, ◌≤◌, ◌+◌, ◌⊎◌, ℕ, Bool, true, List, length, slice_get, Option, Some}
 use Rattle.cn_clauses.specs.declared.lit.Lit.{Lit}
 use Rattle.tm_terms.specs.declared.op.Op.{Op}
 use Rattle.tm_terms.specs.declared.op.Operands.{Operands}

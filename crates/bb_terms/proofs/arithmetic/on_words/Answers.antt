@@ -1,8 +1,8 @@
 use Rattle.std.proofs.Common.{◌%◌, ℤ, ap, sym, ◌∙◌}
 use Rattle.std.proofs.lemmas.Result.{IfOk-weaker}
 use Rattle.std.specs.Int.{int_shr}
-use Rattle.bb_arith.specs.Words.{number_of, signed_of, IsWordGate, wrapped_number as wrapped}
-use Rattle.jv_list.specs.Numbers.{quotient_of, remainder_of}
+use Rattle.bb_arith.specs.Words.{number_of, signed_of, IsWordGate}
+use Rattle.jv_list.specs.Numbers.{quotient_of, remainder_of, wrapped_number}
 use Rattle.bb_terms.specs.Calls.Words.{arithmetic_value}
 use Rattle.bb_terms.specs.declared.arithmetic.WordOp.{WordOp}
 use Rattle.bb_terms.proofs.ArithmeticLemmas.{signed_two, signed_one, gate_told}
@@ -31,7 +31,7 @@ returns-in-Shr-clause-gate g c =
     let b = c.args.b.now in
     IfOk-weaker c.shr.result
     (λ lits. IsWordGate c.args.formula.now c.shr.new.formula lits
-    (λ w. wrapped n (int_shr (signed_of w a) (number_of w b % n))))
+    (λ w. wrapped_number n (int_shr (signed_of w a) (number_of w b % n))))
     (λ lits. IsWordGate c.args.formula.now c.shr.new.formula lits
     (λ w. arithmetic_value n c.args.kind (number_of w a) (number_of w b)))
     (λ lits gate. gate_told c.args.formula.now c.shr.new.formula lits _ _

@@ -1,8 +1,7 @@
-use Rattle.std.proofs.Common.{◌≡◌, ◌<◌, ◌≤◌, ◌+◌, ℕ, Bool, List, length, take, sym, subst, arith}
+use Rattle.std.proofs.Common.{◌<◌, ◌+◌, ℕ, Bool, List, length, take, sym, subst, arith}
 use Rattle.cn_clauses.specs.declared.lit.Lit.{Lit}
-use Rattle.bb_gates.specs.Values.{of_two}
 use Rattle.bb_arith.specs.Words.{number_of}
-use Rattle.bb_terms.specs.Calls.Words.{IsWord, bits_number, joined_bits}
+use Rattle.bb_terms.specs.Calls.Words.{IsWord, bits_number}
 use Rattle.bb_terms.proofs.WordLemmas.{word_next, joined_more, joined_whole}
 use Rattle.bb_terms.proofs.bits.bitwise.Goals as goal
 

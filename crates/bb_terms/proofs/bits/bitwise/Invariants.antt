@@ -1,5 +1,5 @@
 -- The lower bits are joined.
-use Rattle.std.proofs.Common.{◌≡◌, take}
+use Rattle.std.proofs.Common.{take}
 use Rattle.bb_arith.specs.Words.{number_of}
 use Rattle.bb_terms.specs.Calls.Words.{IsWord, bits_number}
 use Rattle.bb_terms.proofs.bits.bitwise.Given as goal

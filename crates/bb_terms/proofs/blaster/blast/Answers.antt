@@ -1,4 +1,4 @@
-use Rattle.std.proofs.Common.{◌≡◌, ◌<◌, ◌≤◌, ◌+◌, length, inl, inr, sym, subst, arith}
+use Rattle.std.proofs.Common.{◌≡◌, inl, inr, sym, subst, arith}
 use Rattle.std.proofs.lemmas.Bool.{cases_lt}
 use Rattle.bb_terms.specs.Tables.{HasSome}
 use Rattle.bb_terms.specs.Calls.Marks.{IsMarked, IsClosedFrom}

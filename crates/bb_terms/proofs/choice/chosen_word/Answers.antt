@@ -1,4 +1,4 @@
-use Rattle.std.proofs.Common.{◌≡◌, ◌<◌, ◌≤◌, ◌+◌, ℕ, List, length, take, sym, subst, arith}
+use Rattle.std.proofs.Common.{◌<◌, ◌+◌, List, length, take, sym, subst, arith}
 use Rattle.cn_clauses.specs.declared.lit.Lit.{Lit}
 use Rattle.bb_terms.specs.Calls.Words.{IsWord, chosen_number}
 use Rattle.bb_terms.proofs.WordLemmas.{word_next, choice_more}

@@ -1,5 +1,5 @@
 -- The lower bits are chosen.
-use Rattle.std.proofs.Common.{◌≡◌, take}
+use Rattle.std.proofs.Common.{take}
 use Rattle.bb_terms.specs.Calls.Words.{IsWord, chosen_number}
 use Rattle.bb_terms.proofs.choice.chosen_word.Given as goal
 

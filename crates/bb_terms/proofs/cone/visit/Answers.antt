@@ -1,4 +1,4 @@
-use Rattle.std.proofs.Common.{◌≤◌, ◌+◌, length, Bool, Some, ap, sym, subst, ◌∙◌, arith}
+use Rattle.std.proofs.Common.{◌≤◌, length, Some, ap, sym, subst, ◌∙◌, arith}
 use Rattle.tm_terms.specs.declared.op.Operands.{Operands}
 use Rattle.tm_terms.specs.Operations.{operands_of, AreBelow}
 use Rattle.bb_terms.specs.Cones.{IsOperand}

@@ -1,4 +1,4 @@
-use Rattle.std.proofs.Common.{◌≡◌, ◌+◌, ◌%◌, ◌^◌, List, sym, subst}
+use Rattle.std.proofs.Common.{◌+◌, ◌%◌, ◌^◌, List, sym, subst}
 use Rattle.cn_clauses.specs.declared.lit.Lit.{Lit}
 use Rattle.bb_terms.specs.Calls.Words.{IsWord}
 use Rattle.bb_terms.proofs.NumberLemmas.{constant_next}

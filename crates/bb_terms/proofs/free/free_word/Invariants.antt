@@ -1,5 +1,5 @@
 -- So many fresh literals.
-use Rattle.std.proofs.Common.{◌≡◌, ◌≤◌, ◌-◌, length}
+use Rattle.std.proofs.Common.{◌≤◌, ◌-◌, length}
 use Rattle.cn_clauses.specs.Extension.{Grows}
 use Rattle.bb_gates.specs.Growth.{IsConservative}
 use Rattle.bb_terms.proofs.free.free_word.Given as goal

@@ -1,4 +1,4 @@
-use Rattle.std.proofs.Common.{◌≤◌, length, refl, subst, ℕ, arith}
+use Rattle.std.proofs.Common.{refl, subst, ℕ, arith}
 use Rattle.std.proofs.lemmas.Option.{slice_get_within}
 use Rattle.tm_terms.specs.declared.op.Op.TheVariants.{Free}
 use Rattle.bb_terms.specs.Calls.Words.{IsFreeWord}

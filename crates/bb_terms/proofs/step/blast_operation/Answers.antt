@@ -1,4 +1,4 @@
-use Rattle.std.proofs.Common.{◌≤◌, length, arith}
+use Rattle.std.proofs.Common.{arith}
 use Rattle.std.proofs.lemmas.Option.{slice_get_within}
 use Rattle.bb_terms.proofs.TableLemmas.{gets_one, term_table, term_once, step_kept}
 use Rattle.bb_terms.proofs.step.blast_operation.Goals as goal

@@ -1,7 +1,6 @@
-use Rattle.std.proofs.Common.{◌≡◌, ◌<◌, ◌≤◌, ◌+◌, ◌*◌, ◌^◌, ◌++◌, ◌∷◌, [], ℕ, Bool, List, length, sym, subst, arith}
+use Rattle.std.proofs.Common.{◌≡◌, ◌≤◌, ◌+◌, ◌*◌, ◌^◌, ◌∷◌, [], List, length, sym, subst, arith}
 use Rattle.std.proofs.lemmas.List.{length-append}
 use Rattle.cn_clauses.specs.declared.lit.Lit.{Lit}
-use Rattle.cn_clauses.specs.declared.formula.Formula.{Formula}
 use Rattle.cn_clauses.specs.Literals.{lit_value}
 use Rattle.bb_gates.specs.Growth.{AreOf}
 use Rattle.bb_arith.specs.Words.{number_of}
