@@ -1,6 +1,7 @@
 // Thin methods of class files that javac wrote, whole and damaged.
 use crate::names::method;
 use crate::tables::{bytes_of, cut, number_of, rows, three_of};
+use cf_class::read_class;
 use cf_thin::{ThinMethod, read_thin};
 use std::process::Abort;
 
@@ -68,24 +69,20 @@ fn read<R: Abort + AllocGlobal>(
 ) -> Option<ThinMethod> {
     let alloc = rt.alloc();
     let (class, name, desc) = entry;
-    read_thin(alloc, bytes, &method(rt, class, name, desc)).expect(rt, "memory")
+    match read_class(alloc, bytes) {
+        Ok(file) => read_thin(alloc, &file, &method(rt, class, name, desc)).expect(rt, "memory"),
+        Err(_) => None,
+    }
 }
 
-// The code and the number of locals of a method, as they are printed. Nothing where it is not thin.
+// The places of the code and the number of locals of a method, as they are printed. Nothing where it is not thin.
+#[rattlefmt::skip]
 const METHODS: [(&str, (&str, &str, &str), &str); 13] = [
-    (
-        T_PLAIN,
-        ("T", "f", "(II)V"),
-        "[26, 27, 160, 0, 5, 1, 191, 177] 2",
-    ),
-    (
-        T_LINES,
-        ("T", "f", "(II)V"),
-        "[26, 27, 160, 0, 5, 1, 191, 177] 2",
-    ),
-    (L_PLAIN, ("L", "g", "(I)I"), "[26, 172] 1"),
-    (L_LINES, ("L", "g", "(I)I"), "[26, 172] 1"),
-    (M_PLAIN, ("M", "x", "(I)I"), "[26, 4, 130, 172] 1"),
+    (T_PLAIN, ("T", "f", "(II)V"), T_CODE),
+    (T_LINES, ("T", "f", "(II)V"), T_CODE),
+    (L_PLAIN, ("L", "g", "(I)I"), "[Some((Iload(0), 1)), Some((Ireturn, 1))] 1"),
+    (L_LINES, ("L", "g", "(I)I"), "[Some((Iload(0), 1)), Some((Ireturn, 1))] 1"),
+    (M_PLAIN, ("M", "x", "(I)I"), "[Some((Iload(0), 1)), Some((Iconst(1), 1)), Some((Ixor, 1)), Some((Ireturn, 1))] 1"),
     (T_PLAIN, ("U", "f", "(II)V"), ""),
     (T_PLAIN, ("T", "g", "(II)V"), ""),
     (T_PLAIN, ("T", "f", "(II)I"), ""),
@@ -95,6 +92,9 @@ const METHODS: [(&str, (&str, &str, &str), &str); 13] = [
     (L_LINES, ("L", "g", ""), ""),
     ("", ("T", "f", "(II)V"), ""),
 ];
+
+const T_CODE: &str =
+    "[Some((Iload(0), 1)), Some((Iload(1), 1)), Some((IfIcmpne(7), 3)), None, None, Some((AconstNull, 1)), Some((Athrow, 1)), Some((Return, 1))] 2";
 
 #[test]
 fn thin_methods_are_found(rt: HostRuntime) {
@@ -152,7 +152,7 @@ const DAMAGES: &str = "
     no | 107-109:0001 | a field that is not there
     no | 113-117:000a000b | two methods of the entry's name and descriptor
     thin | 113-115:000a | another method of the name
-    thin | 113-115:0063 | a method's name past the pool
+    no | 113-115:0063 | a method's name past the pool, which is no class file
     thin | 142-144:0009 | a public method
     no | 142-144:0000 | a method that is not static
     no | 142-144:0108 | a native method

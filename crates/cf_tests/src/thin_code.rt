@@ -1,49 +1,95 @@
 // Thin code, and its instructions (JVM Specification SE 8, 6.5).
 use crate::tables::{bytes_of, cut, number_of, rows, three_of, two_of};
-use cf_thin::{go_forward, is_thin_code, thin_instr_at, weaker_order};
+use cf_code::{decode, read_instr};
+use cf_thin::{
+    ThinInstr, go_forward, is_thin_code, places_of_code, stand_in_place, thin_instr, thin_instr_at,
+    weaker_order,
+};
+use jv_base::List;
 use std::process::Abort;
 
-// Bytes, a pc, and the instruction there with the pc after it, as they are printed.
+// A pc, the bytes of an instruction there, and the instruction of thin code that it is with its size, as it is printed.
 const INSTRUCTIONS: &str = "
-    01 | 0 | Some((AconstNull, 1))
-    02 | 0 | Some((Iconst(-1), 1))
-    08 | 0 | Some((Iconst(5), 1))
-    1080 | 0 | Some((Iconst(-128), 2))
-    118000 | 0 | Some((Iconst(-32768), 3))
-    110102 | 0 | Some((Iconst(258), 3))
-    15ff | 0 | Some((Iload(255), 2))
-    1d | 0 | Some((Iload(3), 1))
-    3604 | 0 | Some((Istore(4), 2))
-    3b | 0 | Some((Istore(0), 1))
-    990005 | 0 | Some((Ifeq(5), 3))
-    a00100 | 0 | Some((IfIcmpne(256), 3))
-    00 | 0 | None
-     | 0 | None
-    10 | 0 | None
-    9900 | 0 | None
-    a7fffd | 0 | None
-    a70000 | 0 | None
-    1a990005 | 1 | Some((Ifeq(6), 4))
-    1a990005 | 4 | None
+    0 | 01 | Some((AconstNull, 1))
+    0 | 02 | Some((Iconst(-1), 1))
+    0 | 08 | Some((Iconst(5), 1))
+    0 | 1080 | Some((Iconst(-128), 2))
+    0 | 118000 | Some((Iconst(-32768), 3))
+    0 | 110102 | Some((Iconst(258), 3))
+    0 | 15ff | Some((Iload(255), 2))
+    0 | 1d | Some((Iload(3), 1))
+    0 | 3604 | Some((Istore(4), 2))
+    0 | 3b | Some((Istore(0), 1))
+    0 | 82 | Some((Ixor, 1))
+    0 | 990005 | Some((Ifeq(5), 3))
+    0 | 9a0005 | Some((Ifne(5), 3))
+    0 | 9f0100 | Some((IfIcmpeq(256), 3))
+    0 | a00100 | Some((IfIcmpne(256), 3))
+    5 | a7fffd | Some((Goto(2), 3))
+    0 | ac | Some((Ireturn, 1))
+    0 | b1 | Some((Return, 1))
+    0 | bf | Some((Athrow, 1))
+    // nop, lload_3, wide iload, lxor, iflt, if_icmplt, goto_w, lreturn, monitorenter
+    0 | 00 | None
+    0 | 21 | None
+    0 | c4150001 | None
+    0 | 83 | None
+    0 | 9b0005 | None
+    0 | a10005 | None
+    0 | c800000005 | None
+    0 | ad | None
+    0 | c2 | None
 ";
 
 #[test]
-fn instructions_of_thin_code_are_read(rt: HostRuntime) {
-    go_forward();
-    weaker_order();
+fn instructions_are_those_of_thin_code_or_others(rt: HostRuntime) {
     let alloc = rt.alloc();
     for row in &rows(&rt, INSTRUCTIONS) {
-        let (bytes, pc, text) = three_of(&rt, row);
-        let bytes = bytes_of(&rt, bytes);
-        assert!(rt; bytes.len() <= 65535);
-        let found = thin_instr_at(&bytes, number_of(&rt, pc));
-        assert!(rt;
-            format!(in alloc; "{found:?}")
-                .expect(&rt, "memory")
-                .as_str()
-                == text,
-            "{row}"
+        let (pc, bytes, text) = three_of(&rt, row);
+        let read = read_instr(alloc, number_of(&rt, pc), &bytes_of(&rt, bytes)).expect(
+            &rt, "memory",
         );
+        let instr = read.expect(&rt, "an instruction");
+        let found = format!(in alloc; "{:?}", thin_instr(&instr)).expect(&rt, "memory");
+        assert!(rt; found.as_str() == text, "{row}");
+    }
+}
+
+/// The places of code. None where the bytes are no code.
+fn places<R: Abort + AllocGlobal>(rt: &R, bytes: &[u8]) -> Option<List<Option<(ThinInstr, u16)>>> {
+    let alloc = rt.alloc();
+    assert!(rt; bytes.len() <= 65535);
+    let code = decode(alloc, bytes).ok()?;
+    Some(places_of_code(alloc, code.as_slice()).expect(rt, "memory"))
+}
+
+// Code, a pc, and the instruction there with the pc after it, as they are printed.
+const STANDING: &str = "
+    1a990003b1 | 0 | Some((Iload(0), 1))
+    1a990003b1 | 1 | Some((Ifeq(4), 4))
+    1a990003b1 | 2 | None
+    1a990003b1 | 4 | Some((Return, 5))
+    1a990003b1 | 5 | None
+    // a jump to itself, one back, and an instruction that is not of thin code
+    a70000 | 0 | None
+    1aa7ffff | 1 | None
+    00b1 | 0 | None
+     | 0 | None
+";
+
+#[test]
+fn instructions_stand_at_their_pcs(rt: HostRuntime) {
+    go_forward();
+    stand_in_place();
+    weaker_order();
+    let alloc = rt.alloc();
+    for row in &rows(&rt, STANDING) {
+        let (bytes, pc, text) = three_of(&rt, row);
+        let code = places(&rt, &bytes_of(&rt, bytes)).expect(&rt, "code");
+        assert!(rt; code.length() <= 65535);
+        let found = thin_instr_at(code.as_slice(), number_of(&rt, pc));
+        let found = format!(in alloc; "{found:?}").expect(&rt, "memory");
+        assert!(rt; found.as_str() == text, "{row}");
     }
 }
 
@@ -56,8 +102,19 @@ fn is_thin<R: Abort + AllocGlobal>(rt: &R, code: &[u8], words: &str) -> bool {
     let (max_stack, max_locals) = cut(rt, rest, ' ');
     let (params, gives_int) = (number_of(rt, params), given == "int");
     let (max_stack, max_locals) = (number_of(rt, max_stack), number_of(rt, max_locals));
-    assert!(rt; code.len() <= 65535);
-    is_thin_code(alloc, code, params, gives_int, max_stack, max_locals).expect(rt, "memory")
+    let Some(code) = places(rt, code) else {
+        return false;
+    };
+    assert!(rt; code.length() <= 65535);
+    is_thin_code(
+        alloc,
+        code.as_slice(),
+        params,
+        gives_int,
+        max_stack,
+        max_locals,
+    )
+    .expect(rt, "memory")
 }
 
 /// Checks whether the code of each row is thin, or is not.

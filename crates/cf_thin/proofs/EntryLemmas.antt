@@ -2,6 +2,7 @@
 use Rattle.std.proofs.Common.{◌++◌, append_assoc, ◌≡◌, ◌≤◌, ◌+◌, ℕ, zero, suc, Bool, true, false, List, [], ◌∷◌}
 use Rattle.std.proofs.Common.{length, Option, Some, None, refl, sym, ap, subst, ◌∙◌, arith, replicate, ◌-◌}
 use Rattle.std.proofs.lemmas.List.{length-append, length-replicate}
+use Rattle.cf_thin.specs.Instr.{Places}
 use Rattle.cf_thin.specs.declared.shape.Shape.{Shape}
 use Rattle.cf_thin.specs.declared.shape.Limits.{Limits}
 use Rattle.cf_thin.specs.ThinCode.{IsStart, Shapes, MeetsRules, HasInstrs, IsThin, entry_locals, IsKnownLess, First}
@@ -32,7 +33,7 @@ entry_length params max le =
     )
 
 -- what is found at the start is sound
-pub sound_entry : (code : List ℕ) (limits : Limits) (found : List (Option Shape)) (shape : Shape) → HasInstrs code
+pub sound_entry : (code : Places) (limits : Limits) (found : List (Option Shape)) (shape : Shape) → HasInstrs code
     → limits.params ≤ limits.max_locals → found ≡ Some shape ∷ replicate (length code - 1) None
     → shape.locals ≡ entry_locals limits.params limits.max_locals → shape.stack ≡ [] → IsSound code limits found 0
 sound_entry code limits found shape instrs params is locals stack =
@@ -51,7 +52,7 @@ sound_entry code limits found shape instrs params is locals stack =
     })
 
 -- what is found at the start is below each assignment that meets the rules
-pub covers_entry : (code : List ℕ) (limits : Limits) (found : List (Option Shape)) (shape : Shape) (all : Shapes)
+pub covers_entry : (code : Places) (limits : Limits) (found : List (Option Shape)) (shape : Shape) (all : Shapes)
     → MeetsRules code limits all → found ≡ Some shape ∷ replicate (length code - 1) None
     → shape.locals ≡ entry_locals limits.params limits.max_locals → shape.stack ≡ [] → Covers found all
 covers_entry code limits found shape all rules is locals stack pc s put =
@@ -71,7 +72,7 @@ covers_entry code limits found shape all rules is locals stack pc s put =
     )
 
 -- where the whole code is passed, the shapes that are found meet the rules
-pub sound_all : (code : List ℕ) (limits : Limits) (found : List (Option Shape)) → HasInstrs code
+pub sound_all : (code : Places) (limits : Limits) (found : List (Option Shape)) → HasInstrs code
     → limits.params ≤ limits.max_locals → IsSound code limits found (length code) → IsThin code limits
 sound_all code limits found instrs params sound = record {
   instrs = instrs;

@@ -2,6 +2,7 @@
 use Rattle.std.proofs.Common.{◌≡◌, ◌≢◌, ◌<◌, ◌≤◌, ◌⊎◌, ℕ, zero, suc, List, [], ◌∷◌, length, slice_set, Option, Some}
 use Rattle.std.proofs.Common.{None, refl, sym, ap, subst, ◌∙◌, arith, inl, inr}
 use Rattle.std.proofs.lemmas.List.{length-set}
+use Rattle.cf_thin.specs.Instr.{Places}
 use Rattle.cf_thin.specs.declared.shape.Shape.{Shape}
 use Rattle.cf_thin.specs.ThinCode.{IsStart, Shapes, IsLed, IsWeaker}
 use Rattle.cf_thin.specs.Calls.Passes.{Differs, LeadsTo, LeadsToAny, RefusesAny, HaveLocals, Covers, FlowsTo, shape_at}
@@ -51,7 +52,7 @@ pub covers_refl : (x : List (Option Shape)) → Covers x (shape_at x)
 covers_refl x pc s is = (s, is, weaker_refl s)
 
 -- shapes grow by one that is put at starts behind pc
-pub record Grows (code : List ℕ) (pc : ℕ) (old : List (Option Shape)) (shape : Shape)
+pub record Grows (code : Places) (pc : ℕ) (old : List (Option Shape)) (shape : Shape)
     (new : List (Option Shape)) : Type 0 where
   pub long : length new ≡ length old
   pub keeps : Covers old (shape_at new)
@@ -59,12 +60,12 @@ pub record Grows (code : List ℕ) (pc : ℕ) (old : List (Option Shape)) (shape
       → (shape_at old at ≡ Some s) ⊎ (IsStart code at × IsWeaker s shape)
   pub same : (at : ℕ) → at ≤ pc → shape_at new at ≡ shape_at old at
 
-pub grows_refl : (code : List ℕ) (pc : ℕ) (found : List (Option Shape)) (shape : Shape)
+pub grows_refl : (code : Places) (pc : ℕ) (found : List (Option Shape)) (shape : Shape)
     → Grows code pc found shape found
 grows_refl code pc found shape =
     record { long = refl; keeps = covers_refl found; fresh = λ at s is. inl is; same = λ at le. refl }
 
-pub grows_trans : (code : List ℕ) (pc : ℕ) (x y z : List (Option Shape)) (shape : Shape) → Grows code pc x shape y
+pub grows_trans : (code : Places) (pc : ℕ) (x y z : List (Option Shape)) (shape : Shape) → Grows code pc x shape y
     → Grows code pc y shape z → Grows code pc x shape z
 grows_trans code pc x y z shape p q = record {
   long = q.long ∙ p.long;
@@ -74,17 +75,17 @@ grows_trans code pc x y z shape p q = record {
 }
 
 -- a pc behind another, where an instruction begins unless the code ends
-abbrev pub IsBehind : List ℕ → ℕ → ℕ → Type 0
+abbrev pub IsBehind : Places → ℕ → ℕ → Type 0
 IsBehind code pc to = (pc < to) × (to < length code → IsStart code to)
 
 -- each shape that stays has its locals
-pub grows_locals : (code : List ℕ) (pc : ℕ) (old new : List (Option Shape)) (shape : Shape)
+pub grows_locals : (code : Places) (pc : ℕ) (old new : List (Option Shape)) (shape : Shape)
     → Grows code pc old shape new → HaveLocals old (length shape.locals) → HaveLocals new (length shape.locals)
 grows_locals code pc old new shape grows have at s is =
     elim (grows.fresh at s is) [ inl was ↦ have at s was | inr put ↦ known_length s.locals shape.locals put.1.locals ]
 
 -- putting a shape at a pc
-pub lead_grows : (code : List ℕ) (pc to : ℕ) (old new : List (Option Shape)) (shape : Shape) → length old ≡ length code
+pub lead_grows : (code : Places) (pc to : ℕ) (old new : List (Option Shape)) (shape : Shape) → length old ≡ length code
     → HaveLocals old (length shape.locals) → IsBehind code pc to → LeadsTo old shape to new
     → Grows code pc old shape new × IsLed (shape_at new) shape to
 lead_grows code pc to old new shape long have behind leads =
@@ -118,7 +119,7 @@ lead_grows code pc to old new shape long have behind leads =
     )
 
 -- putting a shape at a pc, if one is given
-pub lead_any_grows : (code : List ℕ) (pc : ℕ) (to : Option ℕ) (old new : List (Option Shape)) (shape : Shape)
+pub lead_any_grows : (code : Places) (pc : ℕ) (to : Option ℕ) (old new : List (Option Shape)) (shape : Shape)
     → length old ≡ length code → HaveLocals old (length shape.locals) → ((t : ℕ) → to ≡ Some t → IsBehind code pc t)
     → LeadsToAny old shape to new → Grows code pc old shape new × ((t : ℕ) → to ≡ Some t → IsLed (shape_at new) shape t)
 lead_any_grows code pc None old new shape long have behind leads = (
@@ -130,7 +131,7 @@ lead_any_grows code pc (Some t) old new shape long have behind leads =
     (g.0, λ u is. let e : t ≡ u = cc in subst (λ (p : ℕ). IsLed (shape_at new) shape p) e g.1)
 
 -- putting a shape at each pc that may be next
-pub flow_grows : (code : List ℕ) (pc : ℕ) (first second : Option ℕ) (old new : List (Option Shape)) (shape : Shape)
+pub flow_grows : (code : Places) (pc : ℕ) (first second : Option ℕ) (old new : List (Option Shape)) (shape : Shape)
     → length old ≡ length code → HaveLocals old (length shape.locals) → ((t : ℕ) → first ≡ Some t → IsBehind code pc t)
     → ((t : ℕ) → second ≡ Some t → IsBehind code pc t) → FlowsTo old shape first second new
     → Grows code pc old shape new × ((t : ℕ) → first ≡ Some t → IsLed (shape_at new) shape t)

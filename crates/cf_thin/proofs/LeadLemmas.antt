@@ -1,6 +1,7 @@
 -- What one shape that is put at a pc reads and writes.
 use Rattle.std.proofs.Common.{◌≡◌, ◌<◌, ℕ, List, length, slice_set, option_and_then, Option, Some, None, refl, sym, ap}
 use Rattle.std.proofs.Common.{subst, ◌∙◌, arith, inr, IfSome, get_or}
+use Rattle.cf_thin.specs.Instr.{Places}
 use Rattle.cf_thin.specs.declared.shape.Shape.{Shape}
 use Rattle.cf_thin.specs.Calls.Passes.{JoinsFound, Differs, LeadsToAny, RefusesAny, HaveLocals, shape_at}
 use Rattle.cf_thin.proofs.KnownLemmas.{known_length, joins_shape}
@@ -14,7 +15,7 @@ pub shape_read : (found : List (Option Shape)) (pc : ℕ) (o : Option Shape) →
 shape_read found pc o lt is = ap (option_and_then (λ s. s)) (slice_get_read found (length found) pc o refl lt is)
 
 -- what is read at a pc of the code is the shape that is found there
-pub shape_found : (code : List ℕ) (found : List (Option Shape)) (pc n : ℕ) (o : Option Shape) (s : Shape)
+pub shape_found : (code : Places) (found : List (Option Shape)) (pc n : ℕ) (o : Option Shape) (s : Shape)
     → length found ≡ length code → pc < length code → n ≡ pc → o ≡ get_or found n o → o ≡ Some s
     → shape_at found pc ≡ Some s
 shape_found code found pc n o s long lt same is some = ap (shape_at found) (sym same)

@@ -1,12 +1,10 @@
 pub mod ShapeLemmas
 pub mod SweepLemmas
 pub mod KnownLemmas
-pub mod LoopLemmas
 pub mod UniquenessLemmas
-pub mod OpcodeLemmas
 pub mod InstrLemmas
-pub mod TargetLemmas
 pub mod GrowthLemmas
 pub mod LeadLemmas
 pub mod VisitLemmas
 pub mod EntryLemmas
+pub mod StandingLemmas

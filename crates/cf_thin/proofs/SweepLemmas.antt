@@ -4,19 +4,19 @@ use Rattle.std.proofs.Common.{[], ◌∷◌, length, slice_get, Some, None, refl
 use Rattle.std.proofs.Common.{length-append}
 use Rattle.std.proofs.lemmas.Bool.{cases_lt}
 use Rattle.cf_thin.specs.declared.instr.ThinInstr.{ThinInstr}
-use Rattle.cf_thin.specs.Instr.{instr_at}
-use Rattle.cf_thin.specs.ThinCode.{IsStart, First, Next, target_of}
+use Rattle.cf_thin.specs.Instr.{target_of, Places, instr_at}
+use Rattle.cf_thin.specs.ThinCode.{IsStart, First, Next}
 use Rattle.cf_thin.specs.Calls.Passes.{AreStarts, AreWhole, IsAimed, GoesOn}
 use Rattle.cf_thin.proofs.InstrLemmas.{instr_ends, found_parts}
 use Rattle.jv_list.proofs.PlaceLemmas.{slice_get-push_last, slice_get-push_other, slice_get-push_cases}
 
 -- an instruction begins within the code
-pub start_within : (code : List ℕ) → 0 < length code → (pc : ℕ) → IsStart code pc → pc < length code
+pub start_within : (code : Places) → 0 < length code → (pc : ℕ) → IsStart code pc → pc < length code
 start_within code filled pc First = filled
 start_within code filled pc (Next before next instr start is lt) = lt
 
 -- what is known when the bytes below pc are passed, and the next instruction begins at next
-pub record Swept (code : List ℕ) (starts : List Bool) (pc next : ℕ) : Type 0 where
+pub record Swept (code : Places) (starts : List Bool) (pc next : ℕ) : Type 0 where
   pub long : length starts ≡ pc
   pub ahead : pc ≤ next
   pub within : next ≤ length code
@@ -28,7 +28,7 @@ pub record Swept (code : List ℕ) (starts : List Bool) (pc next : ℕ) : Type 0
   pub none : (at : ℕ) → pc ≤ at → IsStart code at → next ≤ at
 
 -- the start
-pub swept_none : (code : List ℕ) → 0 < length code → Swept code [] 0 0
+pub swept_none : (code : Places) → 0 < length code → Swept code [] 0 0
 swept_none code filled = record {
   long = refl;
   ahead = omega arith;
@@ -41,7 +41,7 @@ swept_none code filled = record {
 }
 
 -- no instruction begins within the one at pc
-none_within : (code : List ℕ) (starts : List Bool) (pc after : ℕ) (instr : ThinInstr) → Swept code starts pc pc
+none_within : (code : Places) (starts : List Bool) (pc after : ℕ) (instr : ThinInstr) → Swept code starts pc pc
     → instr_at code pc ≡ Some (instr, after) → (at : ℕ) → IsStart code at → pc < at → after ≤ at
 none_within code starts pc after instr swept is at First lt = absurd (omega arith)
 none_within code starts pc after instr swept is at (Next before next i start found within) lt =
@@ -60,7 +60,7 @@ none_within code starts pc after instr swept is at (Next before next i start fou
     ]
 
 -- a byte where an instruction begins is passed
-pub swept_start : (code : List ℕ) (starts : List Bool) (pc after : ℕ) (instr : ThinInstr) → pc < length code
+pub swept_start : (code : Places) (starts : List Bool) (pc after : ℕ) (instr : ThinInstr) → pc < length code
     → Swept code starts pc pc → instr_at code pc ≡ Some (instr, after) → Swept code (starts ++ true ∷ []) (pc + 1) after
 swept_start code starts pc after instr lt swept is =
     let ends = instr_ends code pc instr after is in
@@ -90,7 +90,7 @@ swept_start code starts pc after instr lt swept is =
     }
 
 -- a byte within an instruction is passed
-pub swept_inside : (code : List ℕ) (starts : List Bool) (pc next : ℕ) → pc ≢ next → Swept code starts pc next
+pub swept_inside : (code : Places) (starts : List Bool) (pc next : ℕ) → pc ≢ next → Swept code starts pc next
     → Swept code (starts ++ false ∷ []) (pc + 1) next
 swept_inside code starts pc next other swept =
     let ahead : pc < next = omega (arith, swept.ahead, other) in
@@ -117,7 +117,7 @@ swept_inside code starts pc next other swept =
       none = λ at le s. swept.none at (omega arith) s;
     }
 
-step_push : (code : List ℕ) (starts : List Bool) (pc next after : ℕ) (begins : Bool) → pc < length code
+step_push : (code : Places) (starts : List Bool) (pc next after : ℕ) (begins : Bool) → pc < length code
     → Swept code starts pc next → GoesOn code pc next after → (begins ≡ true → pc ≡ next) → (begins ≡ false → pc ≢ next)
     → Swept code (starts ++ begins ∷ []) (pc + 1) after
 step_push code starts pc next after true lt swept (inl (other, same)) here_if not_if = absurd (other (here_if refl))
@@ -128,14 +128,14 @@ step_push code starts pc next after true lt swept (inr (here, instr, is)) here_i
 step_push code starts pc next after false lt swept (inr (here, instr, is)) here_if not_if = absurd (not_if refl here)
 
 -- one step
-pub swept_step : (code : List ℕ) (starts new : List Bool) (pc next after : ℕ) (begins : Bool) → pc < length code
+pub swept_step : (code : Places) (starts new : List Bool) (pc next after : ℕ) (begins : Bool) → pc < length code
     → Swept code starts pc next → GoesOn code pc next after → new ≡ starts ++ begins ∷ [] → (begins ≡ true → pc ≡ next)
     → (begins ≡ false → pc ≢ next) → Swept code new (pc + 1) after
 swept_step code starts new pc next after begins lt swept goes push here_if not_if =
     rw push (step_push code starts pc next after begins lt swept goes here_if not_if)
 
 -- the whole code is passed
-pub swept_all : (code : List ℕ) (starts : List Bool) (next : ℕ) → 0 < length code → Swept code starts (length code) next
+pub swept_all : (code : Places) (starts : List Bool) (next : ℕ) → 0 < length code → Swept code starts (length code) next
     → AreStarts code starts × AreWhole code
 swept_all code starts next filled swept = (
   record {
@@ -147,14 +147,14 @@ swept_all code starts next filled swept = (
 )
 
 -- a byte where an instruction begins that is not whole
-pub not_whole : (code : List ℕ) (starts : List Bool) (pc next : ℕ) → pc < length code → Swept code starts pc next
+pub not_whole : (code : Places) (starts : List Bool) (pc next : ℕ) → pc < length code → Swept code starts pc next
     → pc ≡ next → instr_at code pc ≡ None → AreWhole code → ⊥
 not_whole code starts pc next lt swept here is whole =
     let w = whole pc (subst (λ (p : ℕ). IsStart code p) (sym here) (swept.here (omega arith))) in
     let found = w.2 in cc
 
 -- the jump at a pc is aimed where its target is among the starts
-pub aimed_iff : (code : List ℕ) (starts : List Bool) (pc next target : ℕ) (instr : ThinInstr) (found : Bool)
+pub aimed_iff : (code : Places) (starts : List Bool) (pc next target : ℕ) (instr : ThinInstr) (found : Bool)
     → AreStarts code starts → Some (instr, next) ≡ instr_at code pc → Some target ≡ target_of instr
     → (IsTrue found ↔ (slice_get starts target ≡ Some true)) → IsTrue found ↔ IsAimed code pc
 aimed_iff code starts pc next target instr found are is to iff = (

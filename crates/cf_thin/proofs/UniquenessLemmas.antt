@@ -1,63 +1,18 @@
--- What a class file says of an entry, it says once.
-use Rattle.std.proofs.Common.{◌≡◌, ◌≤◌, ℕ, suc, ◌+◌, Bool, true, false, List, length, drop, get_or, replicate}
-use Rattle.std.proofs.Common.{Some, Result, Ok, Err, refl, sym, ap, subst, ◌∙◌, arith}
+-- A descriptor of ints tells how many they are and whether one is given, and a class file has one code of an entry.
+use Rattle.std.proofs.Common.{◌≡◌, ℕ, suc, ◌+◌, Bool, true, false, List, length, drop, get_or, replicate, find}
+use Rattle.std.proofs.Common.{Option, Some, None, Result, Ok, Err, refl, sym, ap, subst, ◌∙◌, arith}
+use Rattle.std.specs.Prelude.{IfOk, IfNone}
+use Rattle.std.specs.declared.alloc.AllocError.{AllocError}
 use Rattle.std.proofs.lemmas.List.{drop_at, length-append, length-replicate}
 use Rattle.jv_base.specs.declared.method.MethodId.{MethodId}
-use Rattle.cf_thin.specs.declared.walk.Refusal.{Refusal}
-use Rattle.cf_thin.specs.declared.walk.Refusal.TheVariants.{NoMemory, Malformed}
+use Rattle.cf_class.specs.declared.class_file.ClassFile.{ClassFile}
+use Rattle.cf_class.specs.declared.member.Member.{Member}
+use Rattle.cf_class.specs.declared.code.Code.{Code}
 use Rattle.cf_thin.specs.declared.thin.ThinMethod.{ThinMethod}
-use Rattle.cf_thin.specs.Walk.{CpInfo, AttributeInfo, MemberInfo, ClassFileInfo, CodeInfo, class_at, code_at}
-use Rattle.cf_thin.specs.Calls.Finds.{Finds}
+use Rattle.cf_thin.specs.Instr.{Places, thin_places}
 use Rattle.cf_thin.specs.ThinCode.{ThinCode}
-use Rattle.cf_thin.specs.Thin.{end_of, int_descriptor, IsCodeOfMethod, IsCodeOfEntry, Thin}
-use Rattle.jv_list.proofs.TestLemmas.{head_same, some_same}
-
-pub Finds-same : {X Y : Type 0} (view : X → Y) (r : Result X Refusal) (P Q : Y → Type 0) → ((y : Y) → P y → Q y)
-    → ((y : Y) → Q y → P y) → Finds view r P → Finds view r Q
-Finds-same view (Ok x) P Q to back h = to (view x) h
-Finds-same view (Err NoMemory) P Q to back h = tt
-Finds-same view (Err Malformed) P Q to back h = λ y q. h y (back y q)
-
-code_of_method-same : (pool : List CpInfo) (method : MemberInfo) (a b : CodeInfo) → IsCodeOfMethod pool method a
-    → IsCodeOfMethod pool method b → a ≡ b
-code_of_method-same pool method a b p q =
-    let same : p.attribute ≡ q.attribute = head_same _ p.attribute q.attribute p.only q.only in
-    let walks : code_at q.attribute.content ≡ Some a = ap (λ (x : AttributeInfo). code_at x.content) (sym same)
-    ∙ p.walks in
-    some_same (code_at q.attribute.content) a b walks q.walks
-
-code_of_entry-same : (file : ClassFileInfo) (entry : MethodId) (a b : CodeInfo) → IsCodeOfEntry file entry a
-    → IsCodeOfEntry file entry b → a ≡ b
-code_of_entry-same file entry a b p q =
-    let same : p.method ≡ q.method = head_same _ p.method q.method p.only q.only in
-    code_of_method-same file.pool q.method a b
-    (subst (λ (m : MemberInfo). IsCodeOfMethod file.pool m a) same p.code_of_method) q.code_of_method
-
--- the method that is the only one
-pub of_method : (file : ClassFileInfo) (entry : MethodId) (method : MemberInfo) (code : CodeInfo)
-    → (q : IsCodeOfEntry file entry code) → q.method ≡ method → IsCodeOfMethod file.pool method code
-of_method file entry method code q same =
-    subst (λ (m : MemberInfo). IsCodeOfMethod file.pool m code) same q.code_of_method
-
--- the code of a thin method
-thin_code_of_entry : (bytes : List ℕ) (entry : MethodId) (thin : ThinMethod) (file : ClassFileInfo)
-    → class_at bytes ≡ Some file → (t : Thin bytes entry thin) → IsCodeOfEntry file entry t.code
-thin_code_of_entry bytes entry thin file walks t =
-    subst (λ (f : ClassFileInfo). IsCodeOfEntry f entry t.code)
-    (some_same (class_at bytes) t.file file t.walks walks) t.code_of_entry
-
-pub thin_code-same : (bytes : List ℕ) (entry : MethodId) (thin : ThinMethod) (file : ClassFileInfo) (code : CodeInfo)
-    → class_at bytes ≡ Some file → IsCodeOfEntry file entry code → (t : Thin bytes entry thin) → t.code ≡ code
-thin_code-same bytes entry thin file code walks found t =
-    code_of_entry-same file entry t.code code (thin_code_of_entry bytes entry thin file walks t) found
-
--- without code there is no thin method
-pub Finds-no_code : {X : Type 0} (view : X → CodeInfo) (bytes : List ℕ) (entry : MethodId) (file : ClassFileInfo)
-    (e : Refusal) → class_at bytes ≡ Some file
-    → Finds view (Err e) (IsCodeOfEntry file entry) → Finds {X = ThinMethod} (λ m. m) (Err e) (Thin bytes entry)
-Finds-no_code view bytes entry file NoMemory walks none = tt
-Finds-no_code view bytes entry file Malformed walks none =
-    λ thin t. none t.code (thin_code_of_entry bytes entry thin file walks t)
+use Rattle.cf_thin.specs.Thin.{end_of, int_descriptor, is_entry, code_in, IsCodeOfEntry, HasThinCode, Thin}
+use Rattle.jv_list.proofs.TestLemmas.{some_same}
 
 end_of-same : (a b : Bool) → end_of a ≡ end_of b → a ≡ b
 end_of-same true true e = refl
@@ -71,7 +26,7 @@ length-int_descriptor n true =
 length-int_descriptor n false =
     omega (arith, length-append (replicate n 73) (end_of false), length-replicate {A = ℕ} n 73)
 
-int_descriptor-same : (m n : ℕ) (a b : Bool) → int_descriptor m a ≡ int_descriptor n b → (m ≡ n) × (a ≡ b)
+pub int_descriptor-same : (m n : ℕ) (a b : Bool) → int_descriptor m a ≡ int_descriptor n b → (m ≡ n) × (a ≡ b)
 int_descriptor-same m n a b e =
     let same : m ≡ n = omega (arith, length-int_descriptor m a, length-int_descriptor n b, ap length e) in
     let ends : drop (suc m) (int_descriptor m a) ≡ end_of a =
@@ -80,28 +35,37 @@ int_descriptor-same m n a b e =
     drop_at (replicate n 73) (end_of b) m (length-replicate {A = ℕ} n 73 ∙ sym same) in
     (same, end_of-same a b (sym ends ∙ ap (drop (suc m)) e ∙ other))
 
--- code that is not thin
-pub not_thin : (bytes : List ℕ) (entry : MethodId) (file : ClassFileInfo) (code : CodeInfo) (n : ℕ) (g b : Bool)
-    → class_at bytes ≡ Some file → IsCodeOfEntry file entry code → entry.desc ≡ int_descriptor n g → b ≡ false
-    → (ThinCode code.code n g code.max_stack code.max_locals → b ≡ true) → (thin : ThinMethod) → Thin bytes entry thin
-    → ⊥
-not_thin bytes entry file code n g b walks found desc is_not is thin t =
-    let same = thin_code-same bytes entry thin file code walks found t in
-    let ints = int_descriptor-same t.params n t.gives_int g (sym t.descriptor ∙ desc) in
-    let one : ThinCode code.code t.params t.gives_int code.max_stack code.max_locals =
-    subst (λ (x : CodeInfo). ThinCode x.code t.params t.gives_int x.max_stack x.max_locals) same t.thin_code in
-    let two : ThinCode code.code n t.gives_int code.max_stack code.max_locals =
-    subst (λ (k : ℕ). ThinCode code.code k t.gives_int code.max_stack code.max_locals) ints.0 one in
-    let three : ThinCode code.code n g code.max_stack code.max_locals =
-    subst (λ (k : Bool). ThinCode code.code n k code.max_stack code.max_locals) ints.1 two in
+-- code whose places are not thin has no thin method
+pub not_thin : (desc : List ℕ) (code : Code) (places : Places) (n : ℕ) (g b : Bool) → desc ≡ int_descriptor n g
+    → places ≡ thin_places code.code → b ≡ false → (ThinCode places n g code.max_stack code.max_locals → b ≡ true)
+    → (m : ThinMethod) → HasThinCode desc code m → ⊥
+not_thin desc code places n g b spelled are is_not is m has =
+    let ints = int_descriptor-same has.params n has.gives_int g (sym has.descriptor ∙ spelled) in
+    let P : Places → ℕ → Bool → Type 0 = λ ps k given. ThinCode ps k given code.max_stack code.max_locals in
+    let one : P places has.params has.gives_int =
+    subst (λ (ps : Places). P ps has.params has.gives_int) (has.same_code ∙ sym are) has.thin_code in
+    let two : P places n has.gives_int = subst (λ (k : ℕ). P places k has.gives_int) ints.0 one in
+    let three : P places n g = subst (λ (given : Bool). P places n given) ints.1 two in
     let yes : b ≡ true = is three in
     absurd cc
 
--- a descriptor that is not of ints
-pub no_signature : (bytes : List ℕ) (entry : MethodId) (file : ClassFileInfo) (code : CodeInfo)
-    → class_at bytes ≡ Some file → IsCodeOfEntry file entry code
-    → ((n : ℕ) (g : Bool) → n ≤ code.max_locals → entry.desc ≡ int_descriptor n g → ⊥) → (thin : ThinMethod)
-    → Thin bytes entry thin → ⊥
-no_signature bytes entry file code walks found none thin t =
-    let same = thin_code-same bytes entry thin file code walks found t in
-    none t.params t.gives_int (subst (λ (x : CodeInfo). t.params ≤ x.max_locals) same t.room) t.descriptor
+-- a class file has one code of an entry at most
+pub one_code : (class : ClassFile) (entry : MethodId) (a b : Code) → IsCodeOfEntry class entry a
+    → IsCodeOfEntry class entry b → a ≡ b
+one_code class entry a b h k =
+    let same : h.method ≡ k.method =
+    some_same (find (is_entry entry) class.methods) h.method k.method h.named k.named in
+    let has : code_in k.method.attributes ≡ Some a = ap (λ (m : Member). code_in m.attributes) (sym same) ∙ h.has in
+    some_same (code_in k.method.attributes) a b has k.has
+
+-- where the code of the entry has no thin method, the class file has none
+pub none_thin : (class : ClassFile) (entry : MethodId) (code : Code) (r : Result (Option ThinMethod) AllocError)
+    → IsCodeOfEntry class entry code
+    → IfOk r (λ o. IfNone o ((m : ThinMethod) → HasThinCode entry.desc code m → ⊥))
+    → IfOk r (λ o. IfNone o ((m : ThinMethod) → Thin class entry m → ⊥))
+none_thin class entry code (Ok None) is none =
+    λ m thin.
+    let same = one_code class entry thin.code code thin.code_of_entry is in
+    none m (subst (λ (c : Code). HasThinCode entry.desc c m) same thin.has_thin_code)
+none_thin class entry code (Ok (Some m)) is none = tt
+none_thin class entry code (Err e) is none = tt

@@ -5,13 +5,11 @@ use Rattle.std.proofs.lemmas.List.{length-set}
 use Rattle.cf_thin.specs.declared.instr.ThinInstr.{ThinInstr}
 use Rattle.cf_thin.specs.declared.shape.Shape.{Shape}
 use Rattle.cf_thin.specs.declared.shape.Limits.{Limits}
-use Rattle.cf_thin.specs.Instr.{instr_at}
+use Rattle.cf_thin.specs.Instr.{target_of, Places, instr_at}
 use Rattle.cf_thin.specs.ThinCode.{IsStart, Next, Shapes, IsLed, Steps, Flows, MeetsRules, HasInstrs, falls_through}
-use Rattle.cf_thin.specs.ThinCode.{target_of}
 use Rattle.cf_thin.specs.Calls.Passes.{LeadsToAny, HaveLocals, Covers, IsSound, FlowsTo, CannotFlow, fall_of, shape_at}
 use Rattle.cf_thin.proofs.KnownLemmas.{known_length, steps_length, steps_more, steps_weaker}
-use Rattle.cf_thin.proofs.InstrLemmas.{instr_ends, found_parts}
-use Rattle.cf_thin.proofs.TargetLemmas.{target_forward}
+use Rattle.cf_thin.proofs.InstrLemmas.{instr_ends, found_parts, target_forward}
 use Rattle.cf_thin.proofs.SweepLemmas.{start_within}
 use Rattle.std.proofs.lemmas.Option.{cond_some}
 use Rattle.cf_thin.specs.declared.shape.OperandType.{OperandType}
@@ -28,7 +26,7 @@ fall_is : (instr : ThinInstr) (next : ℕ) → falls_through instr ≡ true → 
 fall_is instr next f = rw f refl
 
 -- what one visit keeps, where there is no shape
-pub visit_none : (code : List ℕ) (limits : Limits) (found : List (Option Shape)) (pc : ℕ) → IsSound code limits found pc
+pub visit_none : (code : Places) (limits : Limits) (found : List (Option Shape)) (pc : ℕ) → IsSound code limits found pc
     → shape_at found pc ≡ None → IsSound code limits found (pc + 1)
 visit_none code limits found pc sound none = record {
   long = sound.long;
@@ -41,7 +39,7 @@ visit_none code limits found pc sound none = record {
 fall_behind : (instr : ThinInstr) (next t : ℕ) → fall_of instr next ≡ Some t → (falls_through instr ≡ true) × (next ≡ t)
 fall_behind instr next t is = cond_some (falls_through instr) next t is
 
-flows_more : (code : List ℕ) (limits : Limits) (old new : List (Option Shape)) (pc : ℕ) (s : Shape)
+flows_more : (code : Places) (limits : Limits) (old new : List (Option Shape)) (pc : ℕ) (s : Shape)
     → Covers old (shape_at new) → Flows code limits (shape_at old) pc s → Flows code limits (shape_at new) pc s
 flows_more code limits old new pc s covers flows = record {
   instr = flows.instr;
@@ -54,7 +52,7 @@ flows_more code limits old new pc s covers flows = record {
 }
 
 -- the shape after a visited pc has the locals of the method
-pub visit_locals : (code : List ℕ) (limits : Limits) (found : List (Option Shape)) (pc : ℕ) (instr : ThinInstr)
+pub visit_locals : (code : Places) (limits : Limits) (found : List (Option Shape)) (pc : ℕ) (instr : ThinInstr)
     (shape after : Shape) → IsSound code limits found pc → shape_at found pc ≡ Some shape
     → Steps limits instr shape after → HaveLocals found (length after.locals)
 visit_locals code limits found pc instr shape after sound is steps at s is' =
@@ -62,7 +60,7 @@ visit_locals code limits found pc instr shape after sound is steps at s is' =
     (steps_length limits instr shape after steps)
 
 -- a visit keeps what is found sound
-pub visit_sound : (code : List ℕ) (limits : Limits) (old new : List (Option Shape)) (pc next : ℕ) (instr : ThinInstr)
+pub visit_sound : (code : Places) (limits : Limits) (old new : List (Option Shape)) (pc next : ℕ) (instr : ThinInstr)
     (shape after : Shape) → HasInstrs code → IsSound code limits old pc → shape_at old pc ≡ Some shape
     → instr_at code pc ≡ Some (instr, next) → Steps limits instr shape after
     → FlowsTo old after (fall_of instr next) (target_of instr) new → IsSound code limits new (pc + 1)
@@ -110,7 +108,7 @@ visit_sound code limits old new pc next instr shape after instrs sound is found 
     }
 
 -- an assignment that meets the rules flows from what is found, since that is below it
-pub visit_led : (code : List ℕ) (limits : Limits) (all : Shapes) (found : List (Option Shape)) (pc next : ℕ)
+pub visit_led : (code : Places) (limits : Limits) (all : Shapes) (found : List (Option Shape)) (pc next : ℕ)
     (instr : ThinInstr) (shape after : Shape) → MeetsRules code limits all → Covers found all
     → shape_at found pc ≡ Some shape → instr_at code pc ≡ Some (instr, next) → Steps limits instr shape after
     → ((t : ℕ) → fall_of instr next ≡ Some t → IsLed all after t) × ((t : ℕ) → target_of instr ≡ Some t
@@ -130,7 +128,7 @@ visit_led code limits all found pc next instr shape after rules covers is at ste
     )
 
 -- a shape that is found steps, if any assignment meets the rules
-pub visit_steps : (code : List ℕ) (limits : Limits) (all : Shapes) (found : List (Option Shape)) (pc next : ℕ)
+pub visit_steps : (code : Places) (limits : Limits) (all : Shapes) (found : List (Option Shape)) (pc next : ℕ)
     (instr : ThinInstr) (shape : Shape) → MeetsRules code limits all → Covers found all → shape_at found pc ≡ Some shape
     → instr_at code pc ≡ Some (instr, next) → (after : Shape) × Steps limits instr shape after
 visit_steps code limits all found pc next instr shape rules covers is at =
@@ -143,7 +141,7 @@ visit_steps code limits all found pc next instr shape rules covers is at =
     (more.0, more.1)
 
 -- an instruction is at each shape that is found, if any assignment meets the rules
-pub visit_instr : (code : List ℕ) (limits : Limits) (all : Shapes) (found : List (Option Shape)) (pc : ℕ)
+pub visit_instr : (code : Places) (limits : Limits) (all : Shapes) (found : List (Option Shape)) (pc : ℕ)
     (shape : Shape) → MeetsRules code limits all → Covers found all → shape_at found pc ≡ Some shape
     → instr_at code pc ≡ None → ⊥
 visit_instr code limits all found pc shape rules covers is none =
@@ -152,7 +150,7 @@ visit_instr code limits all found pc shape rules covers is none =
     let e = sym none ∙ flows.is in cc (e)
 
 -- what grows stays below each assignment that meets the rules
-pub visit_covers : (code : List ℕ) (limits : Limits) (all : Shapes) (old new : List (Option Shape)) (pc next : ℕ)
+pub visit_covers : (code : Places) (limits : Limits) (all : Shapes) (old new : List (Option Shape)) (pc next : ℕ)
     (instr : ThinInstr) (shape after : Shape) → MeetsRules code limits all → Covers old all
     → shape_at old pc ≡ Some shape → instr_at code pc ≡ Some (instr, next) → Steps limits instr shape after
     → FlowsTo old after (fall_of instr next) (target_of instr) new → Covers new all
@@ -162,7 +160,7 @@ visit_covers code limits all old new pc next instr shape after rules covers is a
     (lead_any_covers all (fall_of instr next) old flows.0 after covers led.0 flows.1) led.1 flows.2
 
 -- nothing is refused, if any assignment meets the rules
-pub visit_refuses : (code : List ℕ) (limits : Limits) (all : Shapes) (old : List (Option Shape)) (pc next : ℕ)
+pub visit_refuses : (code : Places) (limits : Limits) (all : Shapes) (old : List (Option Shape)) (pc next : ℕ)
     (instr : ThinInstr) (shape after : Shape) → 0 < length code → length old ≡ length code → MeetsRules code limits all
     → Covers old all → shape_at old pc ≡ Some shape → instr_at code pc ≡ Some (instr, next)
     → Steps limits instr shape after → CannotFlow old after (fall_of instr next) (target_of instr) → ⊥

@@ -1,4 +1,2 @@
 -- What private functions ensure; no public promise names any of it.
-pub mod Finds
 pub mod Passes
-pub mod Views

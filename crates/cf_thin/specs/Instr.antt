@@ -1,121 +1,131 @@
--- The instructions of thin code, as the JVM Specification SE 8 spells them (6.5, and the table of chapter 7).
-use Rattle.std.specs.Prelude.{◌+◌, ◌*◌, ◌==◌, ℕ, zero, suc, ℤ, pos, negsuc, nat_le, if◌then◌else◌, List, [], ◌∷◌, drop}
-use Rattle.std.specs.Prelude.{find, Option, Some, None}
-use Rattle.std.specs.Int.{w8, w16, cast_signed}
-use Rattle.std.specs.Option.{option_map, option_and_then}
+-- The instructions of thin code among those of the Java Virtual Machine, and where they stand.
+use Rattle.std.specs.Prelude.{◌+◌, ◌-◌, ℕ, Bool, true, ◌&&◌, nat_le, nat_lt, if◌then◌else◌, List, [], ◌∷◌, replicate}
+use Rattle.std.specs.Prelude.{length, slice_get, Option, Some, None}
+use Rattle.std.specs.List.{flat_map}
+use Rattle.cf_code.specs.declared.constant.Constant as constant
+use Rattle.cf_code.specs.declared.constant.Constant.TheVariants as constants
+use Rattle.cf_code.specs.declared.local.LocalIndex as index
+use Rattle.cf_code.specs.declared.local.LocalIndex.TheVariants as indices
+use Rattle.cf_code.specs.declared.local.Local as local
+use Rattle.cf_code.specs.declared.local.Local.TheVariants as locals
+use Rattle.cf_code.specs.declared.word.Word.TheVariants as words
+use Rattle.cf_code.specs.declared.word.Returned as returned
+use Rattle.cf_code.specs.declared.word.Returned.TheVariants as returns
+use Rattle.cf_code.specs.declared.number.BitOp.TheVariants as bits
+use Rattle.cf_code.specs.declared.number.Whole.TheVariants as wholes
+use Rattle.cf_code.specs.declared.number.Number as number
+use Rattle.cf_code.specs.declared.number.Number.TheVariants as numbers
+use Rattle.cf_code.specs.declared.jump.Condition.TheVariants as conditions
+use Rattle.cf_code.specs.declared.jump.Jump as jump
+use Rattle.cf_code.specs.declared.jump.Jump.TheVariants as jumps
+use Rattle.cf_code.specs.declared.object.Object as object
+use Rattle.cf_code.specs.declared.object.Object.TheVariants as objects
+use Rattle.cf_code.specs.declared.instr.Instr as instr
+use Rattle.cf_code.specs.declared.instr.Instr.TheVariants as instrs
+use Rattle.cf_code.specs.declared.code.Placed.{Placed}
 use Rattle.cf_thin.specs.declared.instr.ThinInstr.{ThinInstr}
 use Rattle.cf_thin.specs.declared.instr.ThinInstr.TheVariants.{AconstNull, Iconst, Iload, Istore, Ixor, Ifeq, Ifne}
 use Rattle.cf_thin.specs.declared.instr.ThinInstr.TheVariants.{IfIcmpeq, IfIcmpne, Goto, Ireturn, Return, Athrow}
 
--- what stands behind an opcode, and the instruction that it makes of it
-pub data Format : Type 0 where
-  -- nothing
-  Alone : ThinInstr → Format
-  -- a byte, the index of a local variable
-  OfLocal : (ℕ → ThinInstr) → Format
-  -- a signed byte, which is extended to an int
-  OfByte : (ℤ → ThinInstr) → Format
-  -- a signed short of two bytes, the high one first, which is extended to an int
-  OfShort : (ℤ → ThinInstr) → Format
-  -- a signed short, the distance from the opcode to where the jump goes
-  OfBranch : (ℕ → ThinInstr) → Format
+-- an instruction of thin code with how many bytes it has, or none
+abbrev pub Found : Type 0
+Found = Option (ThinInstr × ℕ)
 
--- an opcode and its format
-pub record Row : Type 0 where
-  pub opcode : ℕ
-  pub format : Format
+-- aconst_null, iconst_<i>, bipush, sipush
+abbrev pub of_constant : constant.Constant → Found
+of_constant constants.Null = Some (AconstNull, 1)
+of_constant (constants.Iconst z) = Some (Iconst z, 1)
+of_constant (constants.Bipush z) = Some (Iconst z, 2)
+of_constant (constants.Sipush z) = Some (Iconst z, 3)
+of_constant other = None
 
--- a row of the table
-abbrev pub row : ℕ → Format → Row
-row opcode format = record { opcode = opcode; format = format }
+-- an access to a local variable that is not behind `wide`
+abbrev pub of_access : (ℕ → ThinInstr) → index.LocalIndex → Found
+of_access access (indices.Short n) = Some (access n, 1)
+of_access access (indices.Byte n) = Some (access n, 2)
+of_access access (indices.Wide n) = None
 
--- the opcodes of thin code
-unfoldable pub opcodes : List Row
-opcodes =
-    row 1 (Alone AconstNull)
-    ∷ row 2 (Alone (Iconst (negsuc 0)))
-    ∷ row 3 (Alone (Iconst (pos 0)))
-    ∷ row 4 (Alone (Iconst (pos 1)))
-    ∷ row 5 (Alone (Iconst (pos 2)))
-    ∷ row 6 (Alone (Iconst (pos 3)))
-    ∷ row 7 (Alone (Iconst (pos 4)))
-    ∷ row 8 (Alone (Iconst (pos 5)))
-    ∷ row 16 (OfByte Iconst)
-    ∷ row 17 (OfShort Iconst)
-    ∷ row 21 (OfLocal Iload)
-    ∷ row 26 (Alone (Iload 0))
-    ∷ row 27 (Alone (Iload 1))
-    ∷ row 28 (Alone (Iload 2))
-    ∷ row 29 (Alone (Iload 3))
-    ∷ row 54 (OfLocal Istore)
-    ∷ row 59 (Alone (Istore 0))
-    ∷ row 60 (Alone (Istore 1))
-    ∷ row 61 (Alone (Istore 2))
-    ∷ row 62 (Alone (Istore 3))
-    ∷ row 130 (Alone Ixor)
-    ∷ row 153 (OfBranch Ifeq)
-    ∷ row 154 (OfBranch Ifne)
-    ∷ row 159 (OfBranch IfIcmpeq)
-    ∷ row 160 (OfBranch IfIcmpne)
-    ∷ row 167 (OfBranch Goto)
-    ∷ row 172 (Alone Ireturn)
-    ∷ row 177 (Alone Return)
-    ∷ row 191 (Alone Athrow)
-    ∷ []
+-- iload, istore
+abbrev pub of_local : local.Local → Found
+of_local (locals.Load words.Int index) = of_access Iload index
+of_local (locals.Store words.Int index) = of_access Istore index
+of_local other = None
 
--- the format of an opcode in a table
-abbrev pub format_in : List Row → ℕ → Option Format
-format_in rows opcode = option_map (λ r. r.format) (find (λ r. r.opcode == opcode) rows)
+-- ixor
+abbrev pub of_number : number.Number → Found
+of_number (numbers.Bitwise bits.Xor wholes.WholeInt) = Some (Ixor, 1)
+of_number other = None
 
--- the format of an opcode of thin code
-unfoldable pub format_of : ℕ → Option Format
-format_of opcode = format_in opcodes opcode
+-- ifeq, ifne, if_icmpeq, if_icmpne, goto
+abbrev pub of_jump : jump.Jump → Found
+of_jump (jumps.IfZero conditions.Equal target) = Some (Ifeq target, 3)
+of_jump (jumps.IfZero conditions.NotEqual target) = Some (Ifne target, 3)
+of_jump (jumps.IfInts conditions.Equal target) = Some (IfIcmpeq target, 3)
+of_jump (jumps.IfInts conditions.NotEqual target) = Some (IfIcmpne target, 3)
+of_jump (jumps.Goto target) = Some (Goto target, 3)
+of_jump other = None
 
--- the instruction of a format that has no operand
-abbrev pub alone : Option Format → Option ThinInstr
-alone (Some (Alone instr)) = Some instr
-alone format = None
+-- ireturn, return
+abbrev pub of_return : returned.Returned → Found
+of_return (returns.Value words.Int) = Some (Ireturn, 1)
+of_return returns.Nothing = Some (Return, 1)
+of_return other = None
 
--- the instruction of a format of jumps, for a target
-abbrev pub jump_to : ℕ → Option Format → Option ThinInstr
-jump_to target (Some (OfBranch instr)) = Some (instr target)
-jump_to target format = None
+-- athrow
+abbrev pub of_object : object.Object → Found
+of_object objects.Throw = Some (Athrow, 1)
+of_object other = None
 
--- the number of two bytes, the high one first, as a signed short
-abbrev pub signed_short : ℕ → ℕ → ℤ
-signed_short high low = cast_signed w16 (256 * high + low)
+-- the instruction of thin code that an instruction is
+abbrev pub thin_of : instr.Instr → Found
+thin_of (instrs.Constant c) = of_constant c
+thin_of (instrs.Local l) = of_local l
+thin_of (instrs.Number n) = of_number n
+thin_of (instrs.Jump j) = of_jump j
+thin_of (instrs.Return r) = of_return r
+thin_of (instrs.Object o) = of_object o
+thin_of other = None
 
--- the signed short at the front of these bytes
-abbrev pub first_short : List ℕ → Option ℤ
-first_short (high ∷ low ∷ rest) = Some (signed_short high low)
-first_short bytes = None
+-- where an instruction jumps to
+abbrev pub target_of : ThinInstr → Option ℕ
+target_of (Ifeq target) = Some target
+target_of (Ifne target) = Some target
+target_of (IfIcmpeq target) = Some target
+target_of (IfIcmpne target) = Some target
+target_of (Goto target) = Some target
+target_of instr = None
 
--- where a jump of this distance goes from a pc: forward, to a pc of two bytes
-abbrev pub forward : ℕ → ℤ → Option ℕ
-forward pc (pos zero) = None
-forward pc (pos (suc n)) = if nat_le (pc + suc n) 65535 then Some (pc + suc n) else None
-forward pc (negsuc n) = None
+-- code with a place for each of its bytes: at the opcode of an instruction of thin code that instruction, and else none
+abbrev pub Places : Type 0
+Places = List Found
 
--- the instruction of a format at a pc that has these bytes behind its opcode, and how many bytes it has with its opcode
-abbrev pub with_operands : ℕ → Format → List ℕ → Option (ThinInstr × ℕ)
-with_operands pc (Alone instr) rest = Some (instr, 1)
-with_operands pc (OfLocal instr) (index ∷ rest) = Some (instr index, 2)
-with_operands pc (OfByte instr) (byte ∷ rest) = Some (instr (cast_signed w8 byte), 2)
-with_operands pc (OfShort instr) (high ∷ low ∷ rest) = Some (instr (signed_short high low), 3)
-with_operands pc (OfBranch instr) (high ∷ low ∷ rest) =
-    option_map (λ target. (instr target, 3)) (forward pc (signed_short high low))
-with_operands pc format rest = None
+-- the places of the bytes of an instruction, of which only the number matters where it is not of thin code
+abbrev pub places_of : Found → Places
+places_of None = None ∷ []
+places_of (Some found) = Some found ∷ replicate (found.1 - 1) None
 
--- the jump of a format at a pc that has these bytes behind its opcode, and how many bytes it has
-abbrev pub branch : ℕ → Option Format → List ℕ → Option (ThinInstr × ℕ)
-branch pc (Some (OfBranch instr)) rest = with_operands pc (OfBranch instr) rest
-branch pc format rest = None
+-- the places of the code of a method: where one of its instructions is not of thin code, those behind it are of no use
+abbrev pub thin_places : List Placed → Places
+thin_places code = flat_map (λ placed. places_of (thin_of placed.instr)) code
 
--- the instruction at the front of these bytes, whose opcode is at this pc, and how many bytes it has
-unfoldable pub first_instr : ℕ → List ℕ → Option (ThinInstr × ℕ)
-first_instr pc [] = None
-first_instr pc (opcode ∷ rest) = option_and_then (λ format. with_operands pc format rest) (format_of opcode)
+-- whether an instruction that jumps does so to a pc behind its own
+abbrev pub jumps_on : ℕ → Option ℕ → Bool
+jumps_on pc None = true
+jumps_on pc (Some target) = nat_lt pc target
 
--- the instruction whose opcode is at a pc of the code, and the pc behind it
-unfoldable pub instr_at : List ℕ → ℕ → Option (ThinInstr × ℕ)
-instr_at code pc = option_map (λ found. (found.0, pc + found.1)) (first_instr pc (drop pc code))
+-- whether an instruction at a pc ends behind the pc and within so many bytes, and jumps behind the pc
+abbrev pub goes_on : ℕ → ℕ → ThinInstr → ℕ → Bool
+goes_on bytes pc instr size = nat_lt 0 size && nat_le (pc + size) bytes && jumps_on pc (target_of instr)
+
+-- what is found at a pc of so many bytes, with the pc behind it, where it goes on
+abbrev pub standing_at : ℕ → ℕ → ThinInstr × ℕ → Option (ThinInstr × ℕ)
+standing_at bytes pc found =
+    if goes_on bytes pc found.0 found.1 then Some (found.0, pc + found.1) else None
+
+abbrev pub found_at : ℕ → ℕ → Option Found → Option (ThinInstr × ℕ)
+found_at bytes pc (Some (Some found)) = standing_at bytes pc found
+found_at bytes pc other = None
+
+-- the instruction whose opcode is at a pc of the code, and the pc behind it, where it goes on
+unfoldable pub instr_at : Places → ℕ → Option (ThinInstr × ℕ)
+instr_at code pc = found_at (length code) pc (slice_get code pc)

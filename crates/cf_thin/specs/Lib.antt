@@ -3,4 +3,3 @@ pub mod Instr
 pub mod Laws
 pub mod Thin
 pub mod ThinCode
-pub mod Walk

@@ -1,7 +1,7 @@
 -- Which bytes are thin code, as the JVM Specification SE 8 says it: the static constraints of 4.9.1, and the shapes of
 -- the frame that 4.10 wants at each instruction.
 use Rattle.std.specs.Prelude.{◌≡◌, ◌-◌, ◌<◌, ◌≤◌, ◌⊎◌, ℕ, Bool, true, false, List, [], ◌∷◌, ◌++◌, length, replicate}
-use Rattle.std.specs.Prelude.{slice_get, slice_set, Option, Some, None}
+use Rattle.std.specs.Prelude.{slice_get, slice_set, Option, Some}
 use Rattle.cf_thin.specs.declared.instr.ThinInstr.{ThinInstr}
 use Rattle.cf_thin.specs.declared.instr.ThinInstr.TheVariants.{AconstNull, Iconst, Iload, Istore, Ixor, Ifeq, Ifne}
 use Rattle.cf_thin.specs.declared.instr.ThinInstr.TheVariants.{IfIcmpeq, IfIcmpne, Goto, Ireturn, Return, Athrow}
@@ -9,22 +9,13 @@ use Rattle.cf_thin.specs.declared.shape.OperandType.{OperandType}
 use Rattle.cf_thin.specs.declared.shape.OperandType.TheVariants.{Int, Reference}
 use Rattle.cf_thin.specs.declared.shape.Shape.{Shape}
 use Rattle.cf_thin.specs.declared.shape.Limits.{Limits}
-use Rattle.cf_thin.specs.Instr.{instr_at}
+use Rattle.cf_thin.specs.Instr.{Places, target_of, instr_at}
 
 -- an instruction begins at this pc: the first at 0, and each other where the instruction before it ends (4.9.1)
-pub data IsStart (code : List ℕ) : ℕ → Type 0 where
+pub data IsStart (code : Places) : ℕ → Type 0 where
   First : IsStart code 0
   Next : (pc next : ℕ) (instr : ThinInstr) → IsStart code pc → instr_at code pc ≡ Some (instr, next)
       → next < length code → IsStart code next
-
--- where an instruction jumps to
-abbrev pub target_of : ThinInstr → Option ℕ
-target_of (Ifeq target) = Some target
-target_of (Ifne target) = Some target
-target_of (IfIcmpeq target) = Some target
-target_of (IfIcmpne target) = Some target
-target_of (Goto target) = Some target
-target_of instr = None
 
 -- the instruction may be followed by the one behind it
 abbrev pub falls_through : ThinInstr → Bool
@@ -35,7 +26,7 @@ falls_through Athrow = false
 falls_through instr = true
 
 -- the bytes are instructions, each as a whole, and each jump goes to one of them (4.9.1)
-pub record HasInstrs (code : List ℕ) : Type 0 where
+pub record HasInstrs (code : Places) : Type 0 where
   pub filled : 0 < length code
   pub whole : (pc : ℕ) → IsStart code pc → (instr : ThinInstr) × (next : ℕ) × (instr_at code pc ≡ Some (instr, next))
   pub aimed : (pc next target : ℕ) (instr : ThinInstr) → IsStart code pc → instr_at code pc ≡ Some (instr, next)
@@ -109,7 +100,7 @@ abbrev pub IsLed : Shapes → Shape → ℕ → Type 0
 IsLed shapes shape pc = (weaker : Shape) × (shapes pc ≡ Some weaker) × IsWeaker weaker shape
 
 -- the instruction at a pc steps from this shape to shapes that stand at each pc that may be next
-pub record Flows (code : List ℕ) (limits : Limits) (shapes : Shapes) (pc : ℕ) (shape : Shape) : Type 0 where
+pub record Flows (code : Places) (limits : Limits) (shapes : Shapes) (pc : ℕ) (shape : Shape) : Type 0 where
   pub instr : ThinInstr
   pub next : ℕ
   pub after : Shape
@@ -119,7 +110,7 @@ pub record Flows (code : List ℕ) (limits : Limits) (shapes : Shapes) (pc : ℕ
   pub jumps : (target : ℕ) → target_of instr ≡ Some target → IsLed shapes after target
 
 -- a shape that fits the limits, at an instruction
-pub record Fits (code : List ℕ) (limits : Limits) (pc : ℕ) (shape : Shape) : Type 0 where
+pub record Fits (code : Places) (limits : Limits) (pc : ℕ) (shape : Shape) : Type 0 where
   pub start : IsStart code pc
   pub stack : length shape.stack ≤ limits.max_stack
   pub locals : length shape.locals ≡ limits.max_locals
@@ -129,20 +120,20 @@ abbrev pub entry_locals : ℕ → ℕ → List Bool
 entry_locals params max_locals = replicate params true ++ replicate (max_locals - params) false
 
 -- these shapes meet the rules: the code's end has none, since no instruction begins there
-pub record MeetsRules (code : List ℕ) (limits : Limits) (shapes : Shapes) : Type 0 where
+pub record MeetsRules (code : Places) (limits : Limits) (shapes : Shapes) : Type 0 where
   pub entry : (shape : Shape) × (shapes 0 ≡ Some shape) × (shape.locals ≡ entry_locals limits.params limits.max_locals)
       × (shape.stack ≡ [])
   pub fits : (pc : ℕ) (shape : Shape) → shapes pc ≡ Some shape → Fits code limits pc shape
   pub flows : (pc : ℕ) (shape : Shape) → shapes pc ≡ Some shape → Flows code limits shapes pc shape
 
 -- bytes that are thin code within these limits
-pub record IsThin (code : List ℕ) (limits : Limits) : Type 0 where
+pub record IsThin (code : Places) (limits : Limits) : Type 0 where
   pub instrs : HasInstrs code
   pub params : limits.params ≤ limits.max_locals
   pub shapes : Shapes
   pub rules : MeetsRules code limits shapes
 
 -- bytes that are thin code, of a method with so many parameters
-abbrev pub ThinCode : List ℕ → ℕ → Bool → ℕ → ℕ → Type 0
+abbrev pub ThinCode : Places → ℕ → Bool → ℕ → ℕ → Type 0
 ThinCode code params gives_int max_stack max_locals =
     IsThin code (record { params = params; gives_int = gives_int; max_stack = max_stack; max_locals = max_locals })

@@ -1,28 +1,15 @@
 // Whether the bytes of a method are instructions, each as a whole, and each jump goes to one of them.
 ghost use Rattle.std.specs.Prelude.{◌≡◌, ◌<◌, ◌≤◌, ◌↔◌, length, slice_get, true, IsTrue, IfOk, IfSome, IfNone, MatchOption};
-ghost use Rattle.cf_thin.specs.Instr.{instr_at};
-ghost use Rattle.cf_thin.specs.ThinCode.{HasInstrs, target_of};
+ghost use Rattle.cf_thin.specs.Instr.{target_of, instr_at};
+ghost use Rattle.cf_thin.specs.ThinCode.{HasInstrs};
 ghost use Rattle.cf_thin.specs.Calls.Passes.{AreStarts, AreWhole, IsAimed, AreAimed, GoesOn};
 
-use crate::instr::{ThinInstr, thin_instr_at};
-use ThinInstr::{Goto, IfIcmpeq, IfIcmpne, Ifeq, Ifne};
+use crate::instr::{ThinInstr, target_of_instr, thin_instr_at};
 use jv_base::Mem;
 use std::alloc::Global;
 
-/// Where an instruction jumps to.
-pub(crate) fn target_of_instr(instr: ThinInstr) -> Option<u16>
-    ensures { result ≡ target_of instr }
-{
-    match instr {
-        Ifeq(target) | Ifne(target) | IfIcmpeq(target) | IfIcmpne(target) | Goto(target) => Some(
-            target,
-        ),
-        _ => None,
-    }
-}
-
 /// Whether code is instructions, whose jumps go to instructions (JVM Specification SE 8, 4.9.1).
-pub(crate) fn has_instrs(alloc: Global, code: &[u8]) -> Mem<bool>
+pub(crate) fn has_instrs(alloc: Global, code: &[Option<(ThinInstr, u16)>]) -> Mem<bool>
     requires { length code.now ≤ 65535 }
     ensures { IfOk result (λ b. IsTrue b ↔ HasInstrs code.now) }
 {
@@ -36,7 +23,7 @@ pub(crate) fn has_instrs(alloc: Global, code: &[u8]) -> Mem<bool>
 }
 
 /// Of each byte, whether an instruction begins there. None where the code does not split into instructions.
-fn starts_of(alloc: Global, code: &[u8]) -> Mem<Option<Vec<bool>>>
+fn starts_of(alloc: Global, code: &[Option<(ThinInstr, u16)>]) -> Mem<Option<Vec<bool>>>
     requires long { length code.now ≤ 65535 }
     requires filled { 0 < length code.now }
     ensures some { IfOk result (λ found. IfSome found (λ starts. AreStarts code.now starts.items × AreWhole code.now)) }
@@ -55,7 +42,7 @@ fn starts_of(alloc: Global, code: &[u8]) -> Mem<Option<Vec<bool>>>
 }
 
 /// Where the next instruction begins when `pc` is passed, and began from `pc` on at `next`.
-fn next_start(code: &[u8], pc: u16, next: u16) -> Option<u16>
+fn next_start(code: &[Option<(ThinInstr, u16)>], pc: u16, next: u16) -> Option<u16>
     requires { length code.now ≤ 65535 }
     ensures { MatchOption result ((pc ≡ next) × (instr_at code.now pc ≡ None)) (λ after. GoesOn code.now pc next after) }
 {
@@ -67,7 +54,7 @@ fn next_start(code: &[u8], pc: u16, next: u16) -> Option<u16>
 }
 
 /// Whether each jump goes to where an instruction begins.
-fn are_aimed(code: &[u8], starts: &[bool]) -> bool
+fn are_aimed(code: &[Option<(ThinInstr, u16)>], starts: &[bool]) -> bool
     requires long { length code.now ≤ 65535 }
     requires starts { AreStarts code.now starts.now }
     ensures { IsTrue result ↔ AreAimed code.now }
@@ -81,7 +68,7 @@ fn are_aimed(code: &[u8], starts: &[bool]) -> bool
 }
 
 /// Whether the jump at a pc, if there is one, goes to where an instruction begins.
-fn is_aimed(code: &[u8], starts: &[bool], pc: u16) -> bool
+fn is_aimed(code: &[Option<(ThinInstr, u16)>], starts: &[bool], pc: u16) -> bool
     requires long { length code.now ≤ 65535 }
     requires starts { AreStarts code.now starts.now }
     ensures { IsTrue result ↔ IsAimed code.now pc }

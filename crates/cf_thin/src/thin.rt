@@ -1,18 +1,16 @@
 // The thin method of a class file.
-ghost use Rattle.std.specs.Prelude.{◌≡◌, List, [], ◌∷◌, map, filter, codes, IfOk, IfSome, IfNone, IsTrue, ◌↔◌, MatchOption};
-ghost use Rattle.cf_thin.specs.Walk.{AttributeInfo, MemberInfo};
-ghost use Rattle.cf_thin.specs.Calls.Views.{info_of, attribute_of, member_of, class_file_of, code_of};
-ghost use Rattle.cf_thin.specs.Calls.Finds.{Finds};
-ghost use Rattle.cf_thin.specs.Thin.{is_entry, is_initializer, is_code, IsThinClass, IsPlainStatic, IsPlainCode, IsCodeOfMethod, IsCodeOfEntry, Thin};
+ghost use Rattle.std.specs.Prelude.{◌≡◌, find, option_copied, codes, List as list_of, ℕ, IfOk, IfSome, IfNone, IsTrue, ◌↔◌, ◌≢◌, MatchOption};
+ghost use Rattle.std.specs.List.{AllByRecursion};
+ghost use Rattle.cf_class.specs.declared.code.Code.{Code as code_type};
+ghost use Rattle.cf_class.specs.declared.member.Member.{Member as member_type};
+ghost use Rattle.cf_thin.specs.Thin.{is_entry, code_in, IsThinClass, IsPlainStatic, IsCodeOfEntry, HasThinCode, Thin};
 
-use crate::class_file::{ClassFile, Code, read_class_file, read_code};
 use crate::descriptor::int_signature;
-use crate::member::{Attribute, Member};
-use crate::pool::{Constant, has_text, names_class};
+use crate::instr::{ThinInstr, places_of_code};
 use crate::thin_code::is_thin_code;
-use crate::walk::Refusal;
-use jv_base::{List, Mem, MethodId};
-use std::alloc::{AllocError, Global};
+use cf_class::{Attribute, Body, ClassFile, Code, Member};
+use jv_base::{List, Mem, MethodId, Name};
+use std::alloc::Global;
 
 const STATIC: u16 = 0x0008;
 
@@ -20,38 +18,39 @@ const NATIVE: u16 = 0x0100;
 
 const ABSTRACT: u16 = 0x0400;
 
-/// A thin method: its code, and how many locals a frame of it has.
+/// A thin method: its code, with a place for each of its bytes, where an instruction stands at its opcode with how many
+/// bytes it has; and how many locals a frame of it has.
 #[derive(Debug, Drop)]
 pub struct ThinMethod {
-    pub code: List<u8>,
+    pub code: List<Option<(ThinInstr, u16)>>,
     pub max_locals: u16,
 }
 
-fn lacks_initializer(pool: &[Constant<'_>], methods: &[Member<'_>]) -> bool
-    ensures { IsTrue result
-        ↔ (filter (is_initializer (map info_of pool.now)) (map member_of methods.now) ≡ []) }
+/// Whether a method initializes its class or interface (JVM Specification SE 8, 2.9).
+fn is_initializer(method: &Member) -> bool
+    ensures { IsTrue result ↔ (method.now.name.name ≡ codes "<clinit>") }
+{
+    method.name.name.as_str() == "<clinit>"
+}
+
+fn lacks_initializer(methods: &[Member]) -> bool
+    ensures { IsTrue result ↔ AllByRecursion (λ (m : member_type). m.name.name ≢ codes "<clinit>") methods.now }
 {
     for method in methods {
-        if has_text(pool, method.name, b"<clinit>") {
+        if is_initializer(method) {
             return false;
         }
     }
     true
 }
 
-fn is_thin_class(file: &ClassFile<'_>, name: &[u8]) -> bool
-    ensures { IsTrue result ↔ IsThinClass (class_file_of file.now) name.now }
+fn is_thin_class(class: &ClassFile, name: &Name) -> bool
+    ensures { IsTrue result ↔ IsThinClass class.now name.now }
 {
-    if file.major < 45 || file.major > 52 || file.interfaces != 0 {
-        return false;
-    }
-    if !names_class(&file.pool, file.this_class, name) {
-        return false;
-    }
-    if !names_class(&file.pool, file.super_class, b"java/lang/Object") {
-        return false;
-    }
-    lacks_initializer(&file.pool, &file.methods)
+    class.this_class.name.equals(name)
+        && class.super_class.name.as_str() == "java/lang/Object"
+        && class.interfaces.is_empty()
+        && lacks_initializer(class.methods.as_slice())
 }
 
 fn is_plain_static(access: u16) -> bool
@@ -60,128 +59,91 @@ fn is_plain_static(access: u16) -> bool
     access & STATIC != 0 && access & NATIVE == 0 && access & ABSTRACT == 0
 }
 
-fn is_plain_code(code: &Code<'_>) -> bool
-    ensures { IsTrue result ↔ IsPlainCode (code_of code.now) }
+fn is_entry(entry: &MethodId, method: &Member) -> bool
+    ensures { result ≡ is_entry entry.now method.now }
 {
-    !code.code.is_empty() && code.code.len() <= 65535 && code.handlers == 0
+    method.name.name.as_str() == entry.name.as_str()
+        && method.desc.name.as_str() == entry.desc.as_str()
 }
 
-/// The only Code attribute.
-fn only_code<'f, 'a>(
-    pool: &[Constant<'a>],
-    attributes: &'f [Attribute<'a>],
-) -> Option<&'f Attribute<'a>>
-    ensures { let found = filter (is_code (map info_of pool.now)) (map attribute_of attributes.now) in
-        MatchOption result ((a : AttributeInfo) → found ≡ a ∷ [] → ⊥) (λ a. found ≡ attribute_of a.now ∷ []) }
+/// The method of the name and the descriptor of an entry, the first one: a class file has one at most.
+pub fn entry_method<'c>(methods: &'c [Member], entry: &MethodId) -> Option<&'c Member>
+    ensures { option_copied result ≡ find (is_entry entry.now) methods.now }
 {
-    let mut found = None;
-    for attribute in attributes {
-        if has_text(pool, attribute.name, b"Code") {
-            if found.is_some() {
-                return None;
-            }
-            found = Some(attribute);
-        }
-    }
-    found
-}
-
-fn is_entry(pool: &[Constant<'_>], entry: &MethodId, method: &Member<'_>) -> bool
-    ensures { result ≡ is_entry (map info_of pool.now) entry.now (member_of method.now) }
-{
-    has_text(pool, method.name, entry.name.as_str().as_bytes())
-        && has_text(pool, method.descriptor, entry.desc.as_str().as_bytes())
-}
-
-/// The only method of the entry's name and descriptor.
-fn only_method<'f, 'a>(
-    pool: &[Constant<'a>],
-    entry: &MethodId,
-    methods: &'f [Member<'a>],
-) -> Option<&'f Member<'a>>
-    ensures { let found = filter (is_entry (map info_of pool.now) entry.now) (map member_of methods.now) in
-        MatchOption result ((m : MemberInfo) → found ≡ m ∷ [] → ⊥) (λ m. found ≡ member_of m.now ∷ []) }
-{
-    let mut found = None;
     for method in methods {
-        if is_entry(pool, entry, method) {
-            if found.is_some() {
-                return None;
-            }
-            found = Some(method);
+        if is_entry(entry, method) {
+            return Some(method);
         }
     }
-    found
+    None
 }
 
-fn code_of_method<'a>(
-    alloc: Global,
-    pool: &[Constant<'a>],
-    method: &Member<'a>,
-) -> Result<Code<'a>, Refusal>
-    ensures { Finds code_of result (IsCodeOfMethod (map info_of pool.now) (member_of method.now)) }
+/// The content of the first Code: the method of a class file has one at most.
+pub fn first_code(attributes: &[Attribute]) -> Option<&Code>
+    ensures { option_copied result ≡ code_in attributes.now }
 {
-    if !is_plain_static(method.access) {
-        return Err(Refusal::Malformed);
+    for attribute in attributes {
+        if let Body::Code(code) = &attribute.body {
+            return Some(code);
+        }
     }
-    let Some(attribute) = only_code(pool, &method.attributes) else {
-        return Err(Refusal::Malformed);
-    };
-    let code = read_code(alloc, attribute.content)?;
-    if !is_plain_code(&code) {
-        return Err(Refusal::Malformed);
-    }
-    Ok(code)
+    None
 }
 
-fn code_of_entry<'a>(
-    alloc: Global,
-    file: &ClassFile<'a>,
-    entry: &MethodId,
-) -> Result<Code<'a>, Refusal>
-    ensures { Finds code_of result (IsCodeOfEntry (class_file_of file.now) entry.now) }
+/// The code of the entry's method, where it may be thin.
+fn code_of_entry<'c>(class: &'c ClassFile, entry: &MethodId) -> Option<&'c Code>
+    ensures { MatchOption result ((code : code_type) → IsCodeOfEntry class.now entry.now code → ⊥) (λ code. IsCodeOfEntry class.now entry.now code.now) }
 {
-    if !is_thin_class(file, entry.class.as_str().as_bytes()) {
-        return Err(Refusal::Malformed);
+    if !is_thin_class(class, &entry.class) {
+        return None;
     }
-    let Some(method) = only_method(&file.pool, entry, &file.methods) else {
-        return Err(Refusal::Malformed);
-    };
-    code_of_method(alloc, &file.pool, method)
+    let method = entry_method(class.methods.as_slice(), entry)?;
+    if !is_plain_static(method.flags) {
+        return None;
+    }
+    let code = first_code(method.attributes.as_slice())?;
+    if code.rows.is_empty() {
+        Some(code)
+    } else {
+        None
+    }
 }
 
-fn thin_method(alloc: Global, bytes: &[u8], entry: &MethodId) -> Result<ThinMethod, Refusal>
-    ensures { Finds (λ m. m) result (Thin bytes.now entry.now) }
+/// The thin method that code is, of a method with this descriptor.
+fn thin_method(alloc: Global, desc: &Name, code: &Code) -> Mem<Option<ThinMethod>>
+    ensures found { IfOk result (λ o. IfSome o (λ m. HasThinCode desc.now code.now m)) }
+    ensures none { IfOk result (λ o. IfNone o ((m : ThinMethod) → HasThinCode desc.now code.now m → ⊥)) }
 {
-    let file = read_class_file(alloc, bytes)?;
-    let code = code_of_entry(alloc, &file, entry)?;
-    let Some(signature) = int_signature(entry.desc.as_str().as_bytes(), code.max_locals) else {
-        return Err(Refusal::Malformed);
+    let Some(signature) = int_signature(desc.as_str().as_bytes(), code.max_locals) else {
+        return Ok(None);
     };
+    let places = places_of_code(alloc, code.code.as_slice())?;
+    if places.length() > 65535 {
+        return Ok(None);
+    }
     if !is_thin_code(
         alloc,
-        code.code,
+        places.as_slice(),
         signature.params,
         signature.gives_int,
         code.max_stack,
         code.max_locals,
     )? {
-        return Err(Refusal::Malformed);
+        return Ok(None);
     }
-    Ok(ThinMethod {
-        code: List::copied(alloc, code.code)?,
+    Ok(Some(ThinMethod {
+        code: places,
         max_locals: code.max_locals,
-    })
+    }))
 }
 
 /// The thin method that a class file has under the entry's class, name and descriptor.
-pub fn read_thin(alloc: Global, bytes: &[u8], entry: &MethodId) -> Mem<Option<ThinMethod>>
-    ensures found { IfOk result (λ o. IfSome o (λ m. Thin bytes.now entry.now m)) }
-    ensures none { IfOk result (λ o. IfNone o ((m : ThinMethod) → Thin bytes.now entry.now m → ⊥)) }
+pub fn read_thin(alloc: Global, class: &ClassFile, entry: &MethodId) -> Mem<Option<ThinMethod>>
+    ensures found { IfOk result (λ o. IfSome o (λ m. Thin class.now entry.now m)) }
+    ensures none { IfOk result (λ o. IfNone o ((m : ThinMethod) → Thin class.now entry.now m → ⊥)) }
 {
-    match thin_method(alloc, bytes, entry) {
-        Ok(method) => Ok(Some(method)),
-        Err(Refusal::Malformed) => Ok(None),
-        Err(Refusal::NoMemory) => Err(AllocError),
+    match code_of_entry(class, entry) {
+        Some(code) => thin_method(alloc, &entry.desc, code),
+        None => Ok(None),
     }
 }

@@ -1,12 +1,13 @@
 // Whether the code of a method is thin: its shapes are found in one pass, since each jump goes forward.
 ghost use Rattle.std.specs.Prelude.{◌≡◌, ◌+◌, ◌-◌, ◌∷◌, ◌<◌, ◌≤◌, ◌↔◌, IsFalse, [], length, true, false, Some, None, Option, List as list_of, replicate, IsTrue, IfOk, IfSome, MatchOption};
 ghost use Rattle.cf_thin.specs.declared.shape.Shape.{Shape};
-ghost use Rattle.cf_thin.specs.ThinCode.{HasInstrs, Shapes, MeetsRules, IsThin, ThinCode, entry_locals, falls_through, target_of};
+ghost use Rattle.cf_thin.specs.ThinCode.{HasInstrs, Shapes, MeetsRules, IsThin, ThinCode, entry_locals, falls_through};
+ghost use Rattle.cf_thin.specs.Instr.{target_of};
 ghost use Rattle.cf_thin.specs.Calls.Passes.{IsSound, Covers, fall_of, FlowsTo, CannotFlow, JoinsFound, Differs, LeadsToAny, RefusesAny, LeadsTo, Refuses, HaveLocals, shape_at};
 
-use crate::instr::{ThinInstr, thin_instr_at};
+use crate::instr::{ThinInstr, target_of_instr, thin_instr_at};
 use crate::shape::{Limits, Shape};
-use crate::starts::{has_instrs, target_of_instr};
+use crate::starts::has_instrs;
 use ThinInstr::{Athrow, Goto, Ireturn, Return};
 use jv_base::{List, Mem};
 use std::alloc::Global;
@@ -14,7 +15,7 @@ use std::alloc::Global;
 /// Whether bytes are thin code of a method with so many parameters, that gives an int or nothing.
 pub fn is_thin_code(
     alloc: Global,
-    code: &[u8],
+    code: &[Option<(ThinInstr, u16)>],
     params: u16,
     gives_int: bool,
     max_stack: u16,
@@ -36,7 +37,7 @@ pub fn is_thin_code(
 }
 
 /// Whether code that is instructions has shapes that meet the rules.
-fn has_shapes(alloc: Global, code: &[u8], limits: Limits) -> Mem<bool>
+fn has_shapes(alloc: Global, code: &[Option<(ThinInstr, u16)>], limits: Limits) -> Mem<bool>
     requires long { length code.now ≤ 65535 }
     requires instrs { HasInstrs code.now }
     requires params { limits.params ≤ limits.max_locals }
@@ -83,7 +84,7 @@ fn entry_locals_of(alloc: Global, limits: Limits) -> Mem<List<bool>>
 /// Steps from the shape at a pc, if there is one, to the pcs that may be next. False where it cannot.
 fn visit(
     alloc: Global,
-    code: &[u8],
+    code: &[Option<(ThinInstr, u16)>],
     limits: Limits,
     shapes: &mut Vec<Option<Shape>>,
     pc: u16,

@@ -1,4 +1,5 @@
 -- At the end of the code, the bits of the goals are true exactly where the run violates them.
+use Rattle.cf_thin.specs.Instr.{Places}
 use Rattle.std.proofs.Common.{◌≡◌, ◌↔◌, ℕ, ℤ, Bool, true, false, List, length, Option, Some, None, refl, sym, ap, ◌∙◌}
 use Rattle.std.proofs.Common.{subst}
 use Rattle.std.proofs.lemmas.Option.{some_pair_parts}
@@ -32,7 +33,7 @@ some_null : (pc at : ℕ) (kind : Kind) → ◌≡◌ {A = Option (ℕ × Kind)}
 some_null pc at kind same = some_pair_parts pc at Null kind same
 
 -- what a run violates that threw null at a pc
-thrown_is : (code : List ℕ) (ints : List ℤ) (pc : ℕ) → RunViolates code ints pc Null → (at : ℕ) (kind : Kind)
+thrown_is : (code : Places) (ints : List ℤ) (pc : ℕ) → RunViolates code ints pc Null → (at : ℕ) (kind : Kind)
     → (◌≡◌ {A = Option (ℕ × Kind)} (Some (pc, Null)) (Some (at, kind))) ↔ RunViolates code ints at kind
 thrown_is code ints pc violates at kind =
     let is = raised_is code ints violates.steps violates.state Null violates.reached violates.raised at kind in
@@ -40,14 +41,14 @@ thrown_is code ints pc violates at kind =
     violates.place is
 
 -- the goals other than null are false, and no run violates them
-thrown_other : (code : List ℕ) (ints : List ℤ) (pc : ℕ) → RunViolates code ints pc Null → (at : ℕ) (kind : Kind)
+thrown_other : (code : Places) (ints : List ℤ) (pc : ℕ) → RunViolates code ints pc Null → (at : ℕ) (kind : Kind)
     → (Null ≡ kind → ⊥) → (false ≡ true) ↔ RunViolates code ints at kind
 thrown_other code ints pc violates at kind ne = (
   λ wrong. absurd cc,
   λ other. absurd (ne (some_null pc at kind ((thrown_is code ints pc violates at kind).1 other)).1),
 )
 
-thrown_goals : (code : List ℕ) (ints : List ℤ) (a : ℕ → Bool) (encoding : Encoding) (pc : ℕ)
+thrown_goals : (code : Places) (ints : List ℤ) (a : ℕ → Bool) (encoding : Encoding) (pc : ℕ)
     → RunViolates code ints pc Null → ((at : ℕ) → (bit_value a (raised_at encoding.raised at) ≡ true) ↔ (at ≡ pc))
     → AreGoals code encoding a ints
 thrown_goals code ints a encoding pc violates is at Null = (
@@ -63,7 +64,7 @@ thrown_goals code ints a encoding pc violates is at StrIndex = thrown_other code
 thrown_goals code ints a encoding pc violates is at Assert = thrown_other code ints pc violates at Assert (λ e. cc)
 
 -- a run that ended violates nothing
-quiet_is : (code : List ℕ) (ints : List ℤ) → HasCome code ints Nothing → (at : ℕ) (kind : Kind)
+quiet_is : (code : Places) (ints : List ℤ) → HasCome code ints Nothing → (at : ℕ) (kind : Kind)
     → RunViolates code ints at kind → ⊥
 quiet_is code ints has at kind violates =
     let ends = has.3 in
@@ -72,7 +73,7 @@ quiet_is code ints has at kind violates =
     violates in
     cc
 
-ended_goals : (code : List ℕ) (ints : List ℤ) (a : ℕ → Bool) (encoding : Encoding) → HasCome code ints Nothing
+ended_goals : (code : Places) (ints : List ℤ) (a : ℕ → Bool) (encoding : Encoding) → HasCome code ints Nothing
     → ((at : ℕ) → bit_value a (raised_at encoding.raised at) ≡ false) → AreGoals code encoding a ints
 ended_goals code ints a encoding has quiet at Null = false_iff _ _ (quiet at) (quiet_is code ints has at Null)
 ended_goals code ints a encoding has quiet at Zero = false_iff false _ refl (quiet_is code ints has at Zero)
@@ -84,7 +85,7 @@ ended_goals code ints a encoding has quiet at StrIndex = false_iff false _ refl 
 ended_goals code ints a encoding has quiet at Assert = false_iff false _ refl (quiet_is code ints has at Assert)
 
 -- a run is at no state when all of the code is encoded
-nowhere : GoForward → (code : List ℕ) (limits : Limits) (shapes : Shapes) (first : Formula) (inputs : List IntBits)
+nowhere : GoForward → (code : Places) (limits : Limits) (shapes : Shapes) (first : Formula) (inputs : List IntBits)
     (encoder : Encoder) → MeetsRules code limits shapes → IsEncoded code shapes first inputs (length code) encoder
     → (pc : ℕ) → pending_at encoder.pending.items pc ≡ None
 nowhere forward code limits shapes first inputs encoder rules encoded pc =
@@ -96,7 +97,7 @@ nowhere forward code limits shapes first inputs encoder rules encoded pc =
           encoded.done pc (shape_within forward code limits shapes rules pc waits.0 waits.1)
     ] refl
 
-so_goals : GoForward → (code : List ℕ) (limits : Limits) (shapes : Shapes) (first : Formula) (inputs : List IntBits)
+so_goals : GoForward → (code : Places) (limits : Limits) (shapes : Shapes) (first : Formula) (inputs : List IntBits)
     (encoder : Encoder) (encoding : Encoding) → MeetsRules code limits shapes
     → IsEncoded code shapes first inputs (length code) encoder → encoding.raised ≡ encoder.raised.items
     → (a : ℕ → Bool) (ints : List ℤ) (came : Came) → IsSo a encoder came → HasCome code ints came
@@ -112,7 +113,7 @@ so_goals forward code limits shapes first inputs encoder encoding rules encoded 
     absurd cc
 
 -- a run that stops where it is not stuck is stuck nowhere
-stops_well : (code : List ℕ) (ints : List ℤ) (n : ℕ) (to : State) → after code n (start ints) ≡ Some to →
+stops_well : (code : Places) (ints : List ℤ) (n : ℕ) (to : State) → after code n (start ints) ≡ Some to →
     Stops code to → (step code to ≡ Stuck → ⊥) → NeverStuck code ints
 stops_well code ints n to reached stops moves steps state at stuck =
     let same : to ≡ state = stops_once code n steps (start ints) to state reached stops at
@@ -120,7 +121,7 @@ stops_well code ints n to reached stops moves steps state at stuck =
     moves (ap (step code) same ∙ stuck)
 
 -- what a run has come to at the end of the code is no state where it is stuck
-never_stuck_so : GoForward → (code : List ℕ) (limits : Limits) (shapes : Shapes) (first : Formula)
+never_stuck_so : GoForward → (code : Places) (limits : Limits) (shapes : Shapes) (first : Formula)
     (inputs : List IntBits) (encoder : Encoder) → MeetsRules code limits shapes →
     IsEncoded code shapes first inputs (length code) encoder → (a : ℕ → Bool) (ints : List ℤ) (came : Came) →
     IsSo a encoder came → HasCome code ints came → NeverStuck code ints
@@ -147,7 +148,7 @@ goal_below n raised below pc StrIndex = tt
 goal_below n raised below pc Assert = tt
 
 -- the whole code is encoded
-pub represents : GoForward → (code : List ℕ) (limits : Limits) (shapes : Shapes) (params : ℕ) (first : Formula)
+pub represents : GoForward → (code : Places) (limits : Limits) (shapes : Shapes) (params : ℕ) (first : Formula)
     (encoder : Encoder) (encoding : Encoding) → MeetsRules code limits shapes → HasInputs params first encoding.inputs
     → IsEncoded code shapes first encoding.inputs (length code) encoder → encoding.formula ≡ encoder.formula
     → encoding.raised ≡ encoder.raised.items → Represents code params encoding

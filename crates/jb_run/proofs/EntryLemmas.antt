@@ -1,4 +1,5 @@
 -- At the entry, the one frame that waits shows the run's first state.
+use Rattle.cf_thin.specs.Instr.{Places}
 use Rattle.std.proofs.Common.{◌≡◌, ◌<◌, ◌≤◌, ◌+◌, ◌-◌, inl, inr, ℕ, zero, suc, ℤ, Bool, true, false, List, [], ◌∷◌}
 use Rattle.std.proofs.Common.{◌++◌, length, map, replicate, Option, Some, None, refl, sym, ap, ◌∙◌, subst, arith, ◌↔◌}
 use Rattle.std.proofs.Common.{length-append, All}
@@ -87,7 +88,7 @@ blank_long long formula encoder blank = (
   ap (λ (r : List Bit). length r) blank.raised ∙ length-replicate long (Known false),
 )
 
-blank_formed : GoForward → (code : List ℕ) (limits : Limits) (shapes : Shapes) (formula : Formula) (encoder : Encoder)
+blank_formed : GoForward → (code : Places) (limits : Limits) (shapes : Shapes) (formula : Formula) (encoder : Encoder)
     → MeetsRules code limits shapes → AreClausesBelow formula.variables (clauses_of formula)
     → IsBlank (length code) formula encoder → IsFormed shapes encoder
 blank_formed forward code limits shapes formula encoder rules named blank =
@@ -101,7 +102,7 @@ blank_formed forward code limits shapes formula encoder rules named blank =
           (sym (blank_raised (length code) formula encoder blank pc)) tt;
     }
 
-entry_led : WeakerOrder → (code : List ℕ) (limits : Limits) (shapes : Shapes) → (rules : MeetsRules code limits shapes)
+entry_led : WeakerOrder → (code : Places) (limits : Limits) (shapes : Shapes) → (rules : MeetsRules code limits shapes)
     → IsLed shapes rules.entry.0 0
 entry_led order code limits shapes rules = (rules.entry.0, rules.entry.1, order.same rules.entry.0)
 
@@ -118,7 +119,7 @@ inputs_below n [] below k word is = absurd cc
 inputs_below n (w ∷ words) below zero word is = (let same : w ≡ word = cc in subst (IsIntBelow n) same below.0)
 inputs_below n (w ∷ words) below (suc k) word is = inputs_below n words below.1 k word is
 
-first_is : (code : List ℕ) (limits : Limits) (shapes : Shapes) (n : ℕ) (inputs : List IntBits) (frame : Frame)
+first_is : (code : Places) (limits : Limits) (shapes : Shapes) (n : ℕ) (inputs : List IntBits) (frame : Frame)
     → (rules : MeetsRules code limits shapes) → length inputs ≡ limits.params → AreIntsBelow n inputs
     → IsFirst inputs frame → IsFrameOf n rules.entry.0 frame
 first_is code limits shapes n inputs frame rules number below first = record {
@@ -154,7 +155,7 @@ first_shows a inputs ints frame first shows = record {
 }
 
 -- the frame at the entry has arrived, and nothing is encoded yet
-pub begun : GoForward → WeakerOrder → (code : List ℕ) (limits : Limits) (shapes : Shapes) (formula : Formula)
+pub begun : GoForward → WeakerOrder → (code : Places) (limits : Limits) (shapes : Shapes) (formula : Formula)
     (inputs : List IntBits) (frame : Frame) (old new : Encoder) → MeetsRules code limits shapes
     → HasInputs limits.params formula inputs → IsFirst inputs frame → IsBlank (length code) formula old
     → Arrives old new 0 frame → IsEncoded code shapes formula inputs 0 new

@@ -1,4 +1,5 @@
 -- Lines whose verdicts are true of a thin method have inputs of ints.
+use Rattle.cf_thin.specs.Instr.{Places}
 use Rattle.std.proofs.Common.{ℕ, inl, inr, List, Option, Some, None, sym, subst}
 use Rattle.std.specs.Prelude.{IfSome}
 use Rattle.std.proofs.lemmas.List.Elements.{All-nil, All-weaker}
@@ -16,12 +17,12 @@ use Rattle.jb_run.specs.IntLines.{IsIntVerdict, AreIntLines}
 use Rattle.jb_run.specs.Justified.{IsJustified, IsJustifiedLine, AreJustified}
 use Rattle.jb_run.proofs.InputLemmas.{ints_are}
 
-verdict_ints : (code : List ℕ) (method : MethodId) (pc : ℕ) (kind : Kind) (verdict : Verdict) →
+verdict_ints : (code : Places) (method : MethodId) (pc : ℕ) (kind : Kind) (verdict : Verdict) →
     IsJustified code method pc kind verdict → IsIntVerdict verdict
 verdict_ints code method pc kind Success is = tt
 verdict_ints code method pc kind (Failure input) is = ints_are input.args is.0.ints is.0.args
 
-lines_ints : (code : List ℕ) (method : MethodId) (lines : List Line) → AreJustified code method lines
+lines_ints : (code : Places) (method : MethodId) (lines : List Line) → AreJustified code method lines
     → AreIntLines lines
 lines_ints code method lines are =
     All-weaker (IsJustifiedLine code method) (λ (line : Line). IsIntVerdict line.verdict)

@@ -12,8 +12,8 @@ use Rattle.jv_base.specs.declared.value.Value.TheVariants.{Int, Long, Ref}
 use Rattle.cf_thin.specs.declared.instr.ThinInstr.{ThinInstr}
 use Rattle.cf_thin.specs.declared.instr.ThinInstr.TheVariants.{AconstNull, Iconst, Iload, Istore, Ixor, Ifeq, Ifne}
 use Rattle.cf_thin.specs.declared.instr.ThinInstr.TheVariants.{IfIcmpeq, IfIcmpne, Goto, Ireturn, Return, Athrow}
-use Rattle.cf_thin.specs.Instr.{instr_at}
-use Rattle.cf_thin.specs.ThinCode.{target_of}
+use Rattle.cf_thin.specs.Instr.{Places, instr_at}
+use Rattle.cf_thin.specs.Instr.{target_of}
 use Rattle.cf_thin.specs.Laws.{GoForward}
 use Rattle.jb_run.specs.declared.machine.State.{State}
 use Rattle.jb_run.specs.declared.machine.Outcome.{Outcome}
@@ -27,12 +27,12 @@ use Rattle.jb_run.specs.Violates.{RunViolates}
 use Rattle.std.proofs.lemmas.Bool.{cond_both}
 
 -- a step by the instruction at the pc
-pub step_some : (code : List ℕ) (state : State) (instr : ThinInstr) (next : ℕ)
+pub step_some : (code : Places) (state : State) (instr : ThinInstr) (next : ℕ)
     → instr_at code state.pc ≡ Some (instr, next) → step code state ≡ step_of instr next state
 unfolding step
 step_some code state instr next is = ap (λ found. step_found found state) is
 
-pub step_none : (code : List ℕ) (state : State) → instr_at code state.pc ≡ None → step code state ≡ Stuck
+pub step_none : (code : Places) (state : State) → instr_at code state.pc ≡ None → step code state ≡ Stuck
 unfolding step
 step_none code state is = ap (λ found. step_found found state) is
 
@@ -122,7 +122,7 @@ step_of_rises Return next old falls jumps = ended_rises old.pc
 step_of_rises Athrow next old falls jumps = throw_rises old.pc (top old.stack)
 
 -- a step that goes on begins in the code, and the pc rises
-pub step_rises : GoForward → (code : List ℕ) (old new : State) → step code old ≡ Next new
+pub step_rises : GoForward → (code : Places) (old new : State) → step code old ≡ Next new
     → (old.pc < length code) × (old.pc < new.pc)
 step_rises forward code old new is =
     elim (instr_at code old.pc) as (λ o. instr_at code old.pc ≡ o → (old.pc < length code) × (old.pc < new.pc)) [
@@ -136,7 +136,7 @@ step_rises forward code old new is =
     ] refl
 
 -- the first of some steps
-pub after_first : (code : List ℕ) (n : ℕ) (from to : State) → after code (suc n) from ≡ Some to
+pub after_first : (code : Places) (n : ℕ) (from to : State) → after code (suc n) from ≡ Some to
     → (next : State) × (step code from ≡ Next next) × (after code n next ≡ Some to)
 unfolding after
 after_first code n from to is =
@@ -148,17 +148,17 @@ after_first code n from to is =
       | Stuck ↦ λ goes is. absurd cc
     ] refl is
 
-pub after_none : (code : List ℕ) (state : State) → after code 0 state ≡ Some state
+pub after_none : (code : Places) (state : State) → after code 0 state ≡ Some state
 unfolding after
 after_none code state = refl
 
-pub after_suc : (code : List ℕ) (n : ℕ) (from next : State) → step code from ≡ Next next
+pub after_suc : (code : Places) (n : ℕ) (from next : State) → step code from ≡ Next next
     → after code (suc n) from ≡ after code n next
 unfolding after
 after_suc code n from next is = ap (λ o. on_next o (after code n)) is
 
 -- one step more
-pub after_more : (code : List ℕ) (n : ℕ) (from to next : State) → after code n from ≡ Some to → step code to ≡ Next next
+pub after_more : (code : Places) (n : ℕ) (from to next : State) → after code n from ≡ Some to → step code to ≡ Next next
     → after code (suc n) from ≡ Some next
 after_more code zero from to next is goes =
     let same : from ≡ to = (let e = after_none code from in cc) in
@@ -168,11 +168,11 @@ after_more code (suc n) from to next is goes =
     after_suc code (suc n) from first.0 first.1 ∙ after_more code n first.0 to next first.2 goes
 
 -- no step follows a state
-pub record Stops (code : List ℕ) (state : State) : Type 0 where
+pub record Stops (code : Places) (state : State) : Type 0 where
   pub stops : (next : State) → step code state ≡ Next next → ⊥
 
 -- a run stops at one state alone
-pub stops_once : (code : List ℕ) (n m : ℕ) (from a b : State) → after code n from ≡ Some a → Stops code a
+pub stops_once : (code : Places) (n m : ℕ) (from a b : State) → after code n from ≡ Some a → Stops code a
     → after code m from ≡ Some b → Stops code b → a ≡ b
 stops_once code zero zero from a b first ends second ends_too = let e = after_none code from in cc
 stops_once code zero (suc m) from a b first ends second ends_too =
@@ -190,7 +190,7 @@ stops_once code (suc n) (suc m) from a b first ends second ends_too =
     stops_once code n m one.0 a b one.2 ends (ap (after code m) same ∙ other.2) ends_too
 
 -- a run of thin code has no more steps than there are bytes from its pc on
-pub steps_left : GoForward → (code : List ℕ) (n : ℕ) (from to : State) → after code n from ≡ Some to
+pub steps_left : GoForward → (code : Places) (n : ℕ) (from to : State) → after code n from ≡ Some to
     → n ≤ length code - from.pc
 steps_left forward code zero from to is = omega arith
 steps_left forward code (suc n) from to is =
@@ -200,7 +200,7 @@ steps_left forward code (suc n) from to is =
     omega (arith, rises.0, rises.1, rest)
 
 -- a run of thin code ends, after no more steps than the code has bytes
-pub run_ends : GoForward → (code : List ℕ) (ints : List ℤ) (n : ℕ) (to : State) → after code n (start ints) ≡ Some to
+pub run_ends : GoForward → (code : Places) (ints : List ℤ) (n : ℕ) (to : State) → after code n (start ints) ≡ Some to
     → n ≤ length code
 run_ends forward code ints n to is = omega (arith, steps_left forward code n (start ints) to is)
 
@@ -216,7 +216,7 @@ raised_kind : (a b : Kind) → Raised a ≡ Raised b → a ≡ b
 raised_kind a b same = cc
 
 -- what a run violates that comes to an instruction that raises
-pub raised_is : (code : List ℕ) (ints : List ℤ) (n : ℕ) (state : State) (kind : Kind)
+pub raised_is : (code : Places) (ints : List ℤ) (n : ℕ) (state : State) (kind : Kind)
     → after code n (start ints) ≡ Some state → step code state ≡ Raised kind → (pc : ℕ) (kind' : Kind)
     → (◌≡◌ {A = Option (ℕ × Kind)} (Some (state.pc, kind)) (Some (pc, kind'))) ↔ RunViolates code ints pc kind'
 raised_is code ints n state kind at raises pc kind' = (
@@ -237,18 +237,18 @@ raised_is code ints n state kind at raises pc kind' = (
 )
 
 -- a step that ends the run, or is stuck, is none that goes on or raises
-pub ended_stops : (code : List ℕ) (state : State) (o : Outcome) → o ≡ step code state → (o ≡ Ended) ⊎ (o ≡ Stuck)
+pub ended_stops : (code : Places) (state : State) (o : Outcome) → o ≡ step code state → (o ≡ Ended) ⊎ (o ≡ Stuck)
     → Stops code state
 ended_stops code state o is (inl ended) = record { stops = λ next goes. absurd cc }
 ended_stops code state o is (inr stuck) = record { stops = λ next goes. absurd cc }
 
-pub ended_quiet : (code : List ℕ) (state : State) (o : Outcome) → o ≡ step code state → (o ≡ Ended) ⊎ (o ≡ Stuck)
+pub ended_quiet : (code : Places) (state : State) (o : Outcome) → o ≡ step code state → (o ≡ Ended) ⊎ (o ≡ Stuck)
     → (kind : Kind) → step code state ≡ Raised kind → ⊥
 ended_quiet code state o is (inl ended) kind raises = cc
 ended_quiet code state o is (inr stuck) kind raises = cc
 
 -- a run that ends without a fault violates nothing
-pub ended_is : (code : List ℕ) (ints : List ℤ) (n : ℕ) (state : State) → after code n (start ints) ≡ Some state
+pub ended_is : (code : Places) (ints : List ℤ) (n : ℕ) (state : State) → after code n (start ints) ≡ Some state
     → Stops code state → ((kind : Kind) → step code state ≡ Raised kind → ⊥) → (pc : ℕ) (kind : Kind)
     → (◌≡◌ {A = Option (ℕ × Kind)} None (Some (pc, kind))) ↔ RunViolates code ints pc kind
 ended_is code ints n state at ends quiet pc kind = (

@@ -7,9 +7,9 @@ use Rattle.jv_base.specs.declared.method.Kind.{Kind}
 use Rattle.cf_thin.specs.declared.instr.ThinInstr.{ThinInstr}
 use Rattle.cf_thin.specs.declared.shape.Limits.{Limits}
 use Rattle.cf_thin.specs.declared.shape.Shape.{Shape}
-use Rattle.cf_thin.specs.Instr.{instr_at}
+use Rattle.cf_thin.specs.Instr.{target_of, Places, instr_at}
 use Rattle.cf_thin.specs.Laws.{GoesForward}
-use Rattle.cf_thin.specs.ThinCode.{target_of, falls_through, Steps, Shapes, IsLed, MeetsRules}
+use Rattle.cf_thin.specs.ThinCode.{falls_through, Steps, Shapes, IsLed, MeetsRules}
 use Rattle.jb_run.specs.declared.formula.Formula.{Formula}
 use Rattle.jb_run.specs.declared.gates.Bit.{Bit}
 use Rattle.jb_run.specs.declared.int_bits.IntBits.{IntBits}
@@ -95,7 +95,7 @@ none_thrown_taken : (a : ℕ → Bool) (old new : Encoder) (pc : ℕ) → IsTake
 none_thrown_taken a old new pc taken none = subst (NoneThrown a) (sym taken.raised) none
 
 -- what a run comes to by one step
-stepped : (code : List ℕ) (ints : List ℤ) (state : State) (steps : ℕ) (instr : ThinInstr) (next : ℕ)
+stepped : (code : Places) (ints : List ℤ) (state : State) (steps : ℕ) (instr : ThinInstr) (next : ℕ)
     → after code steps (start ints) ≡ Some state → instr_at code state.pc ≡ Some (instr, next)
     → (step_of instr next state ≡ Stuck → ⊥) → HasCome code ints (came_of state.pc (step_of instr next state))
 stepped code ints state steps instr next at is moves =
@@ -120,7 +120,7 @@ stepped code ints state steps instr next at is moves =
     ] refl
 
 -- the run goes on where the instruction is encoded
-pub runs_on : (code : List ℕ) (limits : Limits) (shapes : Shapes) (old taken new : Encoder) (pc : ℕ) (frame : Frame)
+pub runs_on : (code : Places) (limits : Limits) (shapes : Shapes) (old taken new : Encoder) (pc : ℕ) (frame : Frame)
     (instr : ThinInstr) (next : ℕ) (a : ℕ → Bool) (ints : List ℤ) (came : Came) → IsTaken old taken pc
     → pending_at old.pending.items pc ≡ Some frame → instr_at code pc ≡ Some (instr, next)
     → IsReady limits shapes taken pc frame instr next
@@ -176,7 +176,7 @@ runs_on code limits shapes old taken new pc frame instr next a ints (Here state)
     ]
 
 -- an instruction with a shape is ready when the frame that waits for it was taken
-pub is_ready : (code : List ℕ) (limits : Limits) (shapes : Shapes) (first : Formula) (inputs : List IntBits)
+pub is_ready : (code : Places) (limits : Limits) (shapes : Shapes) (first : Formula) (inputs : List IntBits)
     (old taken : Encoder) (pc : ℕ) (frame : Frame) (instr : ThinInstr) (next : ℕ) → MeetsRules code limits shapes
     → IsEncoded code shapes first inputs pc old → IsTaken old taken pc → pending_at old.pending.items pc ≡ Some frame
     → instr_at code pc ≡ Some (instr, next) → GoesForward code pc instr next
@@ -208,7 +208,7 @@ is_ready code limits shapes first inputs old taken pc frame instr next rules enc
     }
 
 -- an instruction was encoded, for which a frame waited
-pub encoded_some : (code : List ℕ) (limits : Limits) (shapes : Shapes) (first : Formula) (inputs : List IntBits)
+pub encoded_some : (code : Places) (limits : Limits) (shapes : Shapes) (first : Formula) (inputs : List IntBits)
     (old taken new : Encoder) (pc : ℕ) (frame : Frame) (instr : ThinInstr) (next : ℕ) → MeetsRules code limits shapes
     → IsEncoded code shapes first inputs pc old → IsTaken old taken pc → pending_at old.pending.items pc ≡ Some frame
     → instr_at code pc ≡ Some (instr, next) → GoesForward code pc instr next → Executes taken new pc frame instr next
@@ -238,7 +238,7 @@ encoded_some code limits shapes first inputs old taken new pc frame instr next r
     }
 
 -- nothing waited at a pc
-pub encoded_none : (code : List ℕ) (shapes : Shapes) (first : Formula) (inputs : List IntBits) (encoder : Encoder)
+pub encoded_none : (code : Places) (shapes : Shapes) (first : Formula) (inputs : List IntBits) (encoder : Encoder)
     (pc : ℕ) → IsEncoded code shapes first inputs pc encoder → pending_at encoder.pending.items pc ≡ None
     → IsEncoded code shapes first inputs (pc + 1) encoder
 encoded_none code shapes first inputs encoder pc encoded none = record {
@@ -254,7 +254,7 @@ encoded_none code shapes first inputs encoder pc encoded none = record {
 }
 
 -- an instruction stands where a frame waits
-pub never_missing : (code : List ℕ) (limits : Limits) (shapes : Shapes) (first : Formula) (inputs : List IntBits)
+pub never_missing : (code : Places) (limits : Limits) (shapes : Shapes) (first : Formula) (inputs : List IntBits)
     (encoder : Encoder) (pc : ℕ) (frame : Frame) → MeetsRules code limits shapes
     → IsEncoded code shapes first inputs pc encoder → pending_at encoder.pending.items pc ≡ Some frame
     → instr_at code pc ≡ None → ⊥

@@ -1,10 +1,10 @@
 -- The machine on a few states, as chapter 6 of the JVM Specification SE 8 has it.
-use Rattle.std.proofs.Common.{◌≡◌, ℕ, pos, negsuc, List, [], ◌∷◌, Some, None, refl}
+use Rattle.std.proofs.Common.{◌≡◌, ℕ, pos, negsuc, [], ◌∷◌, Some, None, refl}
 use Rattle.jv_base.specs.declared.method.Kind.TheVariants.{Null}
 use Rattle.jv_base.specs.declared.value.Value.TheVariants.{Int, Ref}
 use Rattle.cf_thin.specs.declared.instr.ThinInstr.TheVariants.{Iload, Istore, Ixor, Ifeq, Ifne, IfIcmpeq, IfIcmpne}
-use Rattle.cf_thin.specs.declared.instr.ThinInstr.TheVariants.{Ireturn, Athrow}
-use Rattle.cf_thin.specs.Instr.{instr_at, first_instr, format_of, opcodes}
+use Rattle.cf_thin.specs.declared.instr.ThinInstr.TheVariants.{AconstNull, Ireturn, Return, Athrow}
+use Rattle.cf_thin.specs.Instr.{Places, instr_at}
 use Rattle.jb_run.specs.declared.machine.State.{State}
 use Rattle.jb_run.specs.declared.machine.Outcome.TheVariants.{Next, Raised, Stuck}
 use Rattle.jb_run.specs.Machine.{step_of, step, after, start}
@@ -63,26 +63,28 @@ pub give_of_null_is : step_of Ireturn 11 (record sample { stack = Ref None ∷ [
 give_of_null_is = refl
 
 -- iload_0, iload_1, if_icmpne 7, aconst_null, athrow, return
-abbrev equal_ints : List ℕ
-equal_ints = 0x1a ∷ 0x1b ∷ 0xa0 ∷ 0 ∷ 5 ∷ 1 ∷ 0xbf ∷ 0xb1 ∷ []
+abbrev equal_ints : Places
+equal_ints =
+    Some (Iload 0, 1) ∷ Some (Iload 1, 1) ∷ Some (IfIcmpne 7, 3) ∷ None ∷ None ∷ Some (AconstNull, 1) ∷ Some (Athrow, 1)
+    ∷ Some (Return, 1) ∷ []
 
 -- with 7 and 7, the fifth step raises null at 6
 pub sevens_reach : after equal_ints 4 (start (pos 7 ∷ pos 7 ∷ [])) ≡ Some
     (record { pc = 6; locals = Some (Int (pos 7)) ∷ Some (Int (pos 7)) ∷ []; stack = Ref None ∷ [] })
-unfolding after step instr_at first_instr format_of opcodes
+unfolding after step instr_at
 sevens_reach = refl
 
 pub sevens_raise : step equal_ints
     (record { pc = 6; locals = Some (Int (pos 7)) ∷ Some (Int (pos 7)) ∷ []; stack = Ref None ∷ [] }) ≡ Raised Null
-unfolding step instr_at first_instr format_of opcodes
+unfolding step instr_at
 sevens_raise = refl
 
 -- with 7 and 1, the run comes to the end of the code, and returns
 pub others_reach : after equal_ints 3 (start (pos 7 ∷ pos 1 ∷ [])) ≡ Some
     (record { pc = 7; locals = Some (Int (pos 7)) ∷ Some (Int (pos 1)) ∷ []; stack = [] })
-unfolding after step instr_at first_instr format_of opcodes
+unfolding after step instr_at
 others_reach = refl
 
 pub others_end : after equal_ints 4 (start (pos 7 ∷ pos 1 ∷ [])) ≡ None
-unfolding after step instr_at first_instr format_of opcodes
+unfolding after step instr_at
 others_end = refl

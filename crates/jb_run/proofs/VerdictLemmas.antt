@@ -1,4 +1,5 @@
 -- The solver's answer for the bit of a goal is the verdict.
+use Rattle.cf_thin.specs.Instr.{Places}
 use Rattle.std.proofs.Common.{◌≡◌, ◌+◌, ℕ, ℤ, Bool, true, false, List, length, replicate, Some, refl, sym}
 use Rattle.std.proofs.Common.{ap, ◌∙◌, subst, arith, length-append}
 use Rattle.std.proofs.lemmas.List.{length-replicate}
@@ -50,7 +51,7 @@ pub params_is : (params : ℕ) (gives_int : Bool) (descriptor : List ℕ) → de
 params_is params gives_int descriptor is = sym (ap (λ (d : List ℕ). length d) is ∙ descriptor_long params gives_int)
 
 -- no run of an input of the method that is encoded is stuck
-pub goes_on : (encoding : Encoding) (code : List ℕ) (method : MethodId) → IsEncodingOf code method encoding →
+pub goes_on : (encoding : Encoding) (code : Places) (method : MethodId) → IsEncodingOf code method encoding →
     RunsGoOn code method
 goes_on encoding code method of input is =
     let number : length is.ints ≡ of.params =
@@ -58,7 +59,7 @@ goes_on encoding code method of input is =
     of.represents.goes_on is.ints number is.fit
 
 -- no assignment makes the goal true, so no input violates it
-pub unsat_justified : (encoding : Encoding) (code : List ℕ) (method : MethodId) (pc : ℕ) (kind : Kind)
+pub unsat_justified : (encoding : Encoding) (code : Places) (method : MethodId) (pc : ℕ) (kind : Kind)
     → IsRight encoding.formula (goal_bit encoding.raised pc kind) Unsat → IsEncodingOf code method encoding
     → IsJustified code method pc kind Success
 unsat_justified encoding code method pc kind right of input is_input violates =
@@ -74,7 +75,7 @@ unsat_justified encoding code method pc kind right of input is_input violates =
     right represents.clauses (represents.goals pc kind) a.0 a.1 ((a.3 pc kind).1 run)
 
 -- the assignment makes the goal true, so the input that it shows violates it
-pub sat_justified : (encoding : Encoding) (code : List ℕ) (method : MethodId) (pc : ℕ) (kind : Kind)
+pub sat_justified : (encoding : Encoding) (code : Places) (method : MethodId) (pc : ℕ) (kind : Kind)
     (values : List Bool) (input : Input) (ints : List ℤ) → Satisfies (value_at values) encoding.formula
     → bit_value (value_at values) (goal_bit encoding.raised pc kind) ≡ true → HasInts input ints
     → ShowInts (value_at values) encoding.inputs ints → IsEncodingOf code method encoding

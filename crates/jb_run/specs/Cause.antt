@@ -3,6 +3,8 @@ use Rattle.std.specs.Prelude.{◌≡◌, ◌⊎◌, ℕ, ◌==◌, List, [], ◌
 use Rattle.std.specs.Prelude.{if◌then◌else◌}
 use Rattle.std.specs.Option.{option_map}
 use Rattle.jv_base.specs.declared.method.MethodId.{MethodId}
+use Rattle.cf_class.specs.declared.class_file.ClassFile.{ClassFile}
+use Rattle.cf_class.specs.Content.{IsClass}
 use Rattle.cf_thin.specs.declared.thin.ThinMethod.{ThinMethod}
 use Rattle.cf_thin.specs.Thin.{Thin}
 use Rattle.io_edges.specs.declared.folder.File.{File}
@@ -23,12 +25,13 @@ use Rattle.jb_run.specs.Violates.{RunsGoOn}
 abbrev pub status_of : List Line → ℕ
 status_of lines = if failure_count lines == 0 then 0 else 10
 
--- the bytes are a class with the thin method of the entry, no run of which is stuck, and the lines are for its sites,
--- in
--- order, with verdicts that are true of it
+-- the bytes are a class file with the thin method of the entry, no run of which is stuck, and the lines are for its sites,
+-- in order, with verdicts that are true of it
 pub record AreLinesOf (bytes : List ℕ) (entry : MethodId) (lines : List Line) : Type 0 where
+  pub class : ClassFile
+  pub is_class : IsClass bytes class
   pub method : ThinMethod
-  pub thin : Thin bytes entry method
+  pub thin : Thin class entry method
   pub sites : IsSites entry method.code (map (λ line. line.goal) lines)
   pub goes_on : RunsGoOn method.code entry
   pub justified : AreJustified method.code entry lines
@@ -41,7 +44,7 @@ HasLines entry TooLong lines = ⊥
 
 -- the folder's answer is no class with such a method
 abbrev pub HasNoLines : MethodId → Was → Type 0
-HasNoLines entry (Found bytes) = (method : ThinMethod) → Thin bytes entry method → ⊥
+HasNoLines entry (Found bytes) = (class : ClassFile) → IsClass bytes class → (method : ThinMethod) → Thin class entry method → ⊥
 HasNoLines entry Absent = Unit {0}
 HasNoLines entry TooLong = Unit {0}
 

@@ -1,5 +1,6 @@
 -- What the steps of the encoder do: under each assignment that satisfies the formula, one guard at most is true among
 -- the frames that wait, at the pc where the run is, and the frame under it shows the run's state.
+use Rattle.cf_thin.specs.Instr.{target_of, Places}
 use Rattle.std.specs.Prelude.{◌≡◌, ◌+◌, ◌<◌, ◌≤◌, ◌↔◌, ◌||◌, if◌then◌else◌, ℕ, ℤ, Bool, true, false, List, [], ◌++◌}
 use Rattle.std.specs.Prelude.{length, Option, Some, None, slice_get, slice_set, slice_index_or, option_and_then, All}
 use Rattle.std.specs.Prelude.{FitsSigned}
@@ -8,7 +9,7 @@ use Rattle.cf_thin.specs.declared.instr.ThinInstr.{ThinInstr}
 use Rattle.cf_thin.specs.declared.shape.OperandType as kind
 use Rattle.cf_thin.specs.declared.shape.Shape.{Shape}
 use Rattle.cf_thin.specs.declared.shape.Limits.{Limits}
-use Rattle.cf_thin.specs.ThinCode.{target_of, falls_through, Steps, Shapes, IsLed, MeetsRules}
+use Rattle.cf_thin.specs.ThinCode.{falls_through, Steps, Shapes, IsLed, MeetsRules}
 use Rattle.jv_base.specs.declared.method.Kind.TheVariants.{Null}
 use Rattle.jv_base.specs.declared.value.Value.{Value}
 use Rattle.jb_run.specs.declared.formula.Formula.{Formula}
@@ -266,14 +267,14 @@ pub record HasInputs (params : ℕ) (formula : Formula) (inputs : List IntBits) 
       × ShowInts a inputs ints
 
 -- a run of these ints came to this
-abbrev pub HasCome : List ℕ → List ℤ → Came → Type 0
+abbrev pub HasCome : Places → List ℤ → Came → Type 0
 HasCome code ints Nothing = (steps : ℕ) × (state : State) × (machine.after code steps (machine.start ints) ≡ Some state)
     × (machine.step code state ≡ Ended)
 HasCome code ints (Here state) = (steps : ℕ) × (machine.after code steps (machine.start ints) ≡ Some state)
 HasCome code ints (Thrown pc) = RunViolates code ints pc Null
 
 -- the instructions below a pc are encoded, from a formula that has the inputs
-pub record IsEncoded (code : List ℕ) (shapes : Shapes) (first : Formula) (inputs : List IntBits) (pc : ℕ)
+pub record IsEncoded (code : Places) (shapes : Shapes) (first : Formula) (inputs : List IntBits) (pc : ℕ)
     (encoder : Encoder) : Type 0 where
   pub formed : IsFormed shapes encoder
   pub extends : Extends first encoder.formula
@@ -290,7 +291,7 @@ pub record IsTaken (old new : Encoder) (pc : ℕ) : Type 0 where
   pub raised : new.raised.items ≡ old.raised.items
 
 -- the instruction at a pc is encoded, where a frame waits for it
-abbrev pub Visits : List ℕ → Encoder → Encoder → ℕ → Type 0
+abbrev pub Visits : Places → Encoder → Encoder → ℕ → Type 0
 Visits code old new pc =
     (limits : Limits) (shapes : Shapes) (first : Formula) (inputs : List IntBits) → MeetsRules code limits shapes
     → IsEncoded code shapes first inputs pc old → IsEncoded code shapes first inputs (pc + 1) new

@@ -8,7 +8,7 @@ use Rattle.jv_base.specs.declared.value.Value.TheVariants.{Int, Ref}
 use Rattle.cf_thin.specs.declared.instr.ThinInstr.{ThinInstr}
 use Rattle.cf_thin.specs.declared.instr.ThinInstr.TheVariants.{AconstNull, Iconst, Iload, Istore, Ixor, Ifeq, Ifne}
 use Rattle.cf_thin.specs.declared.instr.ThinInstr.TheVariants.{IfIcmpeq, IfIcmpne, Goto, Ireturn, Return, Athrow}
-use Rattle.cf_thin.specs.Instr.{instr_at}
+use Rattle.cf_thin.specs.Instr.{Places, instr_at}
 use Rattle.jb_run.specs.Locals.{local_at, with_local}
 use Rattle.jb_run.specs.Stack.{top, below}
 use Rattle.jb_run.specs.declared.machine.State.{State}
@@ -104,7 +104,7 @@ step_found None state = Stuck
 step_found (Some found) state = step_of found.0 found.1 state
 
 -- one step of code: what the instruction at the pc does (2.11)
-unfoldable pub step : List ℕ → State → Outcome
+unfoldable pub step : Places → State → Outcome
 step code state = step_found (instr_at code state.pc) state
 
 -- goes on from the next state, where there is one
@@ -113,7 +113,7 @@ on_next (Next state) go = go state
 on_next outcome go = None
 
 -- the state after so many steps, where the run gets so far
-unfoldable pub after : List ℕ → ℕ → State → Option State
+unfoldable pub after : Places → ℕ → State → Option State
 after code zero state = Some state
 after code (suc n) state = on_next (step code state) (after code n)
 

@@ -1,4 +1,5 @@
 -- The formula of a method represents its runs: it has the assignments that show a run, and no others.
+use Rattle.cf_thin.specs.Instr.{Places}
 use Rattle.std.specs.Prelude.{◌≡◌, ◌↔◌, ℕ, ℤ, Bool, true, false, List, length, All, FitsSigned}
 use Rattle.std.specs.Int.{w32}
 use Rattle.jv_base.specs.declared.method.Kind.{Kind}
@@ -18,12 +19,12 @@ goal_bit raised pc Null = raised_at raised pc
 goal_bit raised pc kind = Known false
 
 -- the bits of the goals are true exactly where the run of these ints violates them
-abbrev pub AreGoals : List ℕ → Encoding → (ℕ → Bool) → List ℤ → Type 0
+abbrev pub AreGoals : Places → Encoding → (ℕ → Bool) → List ℤ → Type 0
 AreGoals code encoding a ints = (pc : ℕ) (kind : Kind)
     → (bit_value a (goal_bit encoding.raised pc kind) ≡ true) ↔ RunViolates code ints pc kind
 
 -- the encoding has exactly the runs of code whose first locals are so many ints
-pub record Represents (code : List ℕ) (params : ℕ) (encoding : Encoding) : Type 0 where
+pub record Represents (code : Places) (params : ℕ) (encoding : Encoding) : Type 0 where
   pub number : length encoding.inputs ≡ params
   pub clauses : AreClausesBelow encoding.formula.variables (clauses_of encoding.formula)
   pub goals : (pc : ℕ) (kind : Kind) → IsBitBelow encoding.formula.variables (goal_bit encoding.raised pc kind)

@@ -7,10 +7,10 @@ use Rattle.jv_base.specs.declared.method.Kind.{Kind}
 use Rattle.jv_base.specs.declared.method.Kind.TheVariants.{Null, Assert}
 use Rattle.cf_thin.specs.declared.instr.ThinInstr.{ThinInstr}
 use Rattle.cf_thin.specs.declared.instr.ThinInstr.TheVariants.{Athrow}
-use Rattle.cf_thin.specs.Instr.{instr_at}
+use Rattle.cf_thin.specs.Instr.{Places, instr_at}
 
 -- the pcs of the instructions from one pc to another, one after the other (JVM Specification SE 8, 4.9.1)
-abbrev pub Walk : List ℕ → ℕ → List ℕ → ℕ → Type 0
+abbrev pub Walk : Places → ℕ → List ℕ → ℕ → Type 0
 Walk code from [] to = from ≡ to
 Walk code from (pc ∷ pcs) to =
     (from ≡ pc) × (instr : ThinInstr) × (next : ℕ) × (instr_at code pc ≡ Some (instr, next)) × Walk code next pcs to
@@ -32,11 +32,11 @@ goals_of_found method pc None = []
 goals_of_found method pc (Some found) = goals_of method pc found.0
 
 -- the goals of the instruction that stands at a pc of the code
-unfoldable pub goals_at : MethodId → List ℕ → ℕ → List Goal
+unfoldable pub goals_at : MethodId → Places → ℕ → List Goal
 goals_at method code pc = goals_of_found method pc (instr_at code pc)
 
 -- the goals of all instructions, in the order of their pcs
-pub record IsSites (method : MethodId) (code : List ℕ) (goals : List Goal) : Type 0 where
+pub record IsSites (method : MethodId) (code : Places) (goals : List Goal) : Type 0 where
   pub pcs : List ℕ
   pub walk : Walk code 0 pcs (length code)
   pub goals_are : goals ≡ flat_map (goals_at method code) pcs

@@ -1,4 +1,5 @@
 -- What a verdict from an encoding says of whichever method it represents.
+use Rattle.cf_thin.specs.Instr.{Places}
 use Rattle.std.specs.Prelude.{◌≡◌, ℕ, Bool, List, All}
 use Rattle.jv_base.specs.declared.method.Goal.{Goal}
 use Rattle.jv_base.specs.declared.method.MethodId.{MethodId}
@@ -10,7 +11,7 @@ use Rattle.jb_run.specs.Justified.{IsJustified}
 use Rattle.jb_run.specs.Represents.{Represents}
 
 -- the encoding represents the code of a method whose parameters are so many ints
-pub record IsEncodingOf (code : List ℕ) (method : MethodId) (encoding : Encoding) : Type 0 where
+pub record IsEncodingOf (code : Places) (method : MethodId) (encoding : Encoding) : Type 0 where
   pub params : ℕ
   pub gives_int : Bool
   pub descriptor : method.desc ≡ int_descriptor params gives_int
@@ -19,7 +20,7 @@ pub record IsEncodingOf (code : List ℕ) (method : MethodId) (encoding : Encodi
 -- the verdict is justified for each method that is encoded so
 abbrev pub IsVerdictBy : Encoding → Goal → Verdict → Type 0
 IsVerdictBy encoding goal verdict =
-    (code : List ℕ) (method : MethodId) → IsEncodingOf code method encoding
+    (code : Places) (method : MethodId) → IsEncodingOf code method encoding
     → IsJustified code method goal.site.pc goal.kind verdict
 
 -- and so is the verdict of each line

@@ -1,4 +1,5 @@
 -- Which inputs a thin method has, and what a run of one of them violates.
+use Rattle.cf_thin.specs.Instr.{Places}
 use Rattle.std.specs.Prelude.{◌≡◌, ℕ, ℤ, Bool, List, length, map, Some, All, FitsSigned}
 use Rattle.std.specs.Int.{w32}
 use Rattle.jv_base.specs.declared.input.Input.{Input}
@@ -23,7 +24,7 @@ pub record IsInput (method : MethodId) (input : Input) : Type 0 where
   pub descriptor : method.desc ≡ int_descriptor (length ints) gives_int
 
 -- the run of these ints violates a kind at a pc: it comes to that pc, and the step there raises the kind
-pub record RunViolates (code : List ℕ) (ints : List ℤ) (pc : ℕ) (kind : Kind) : Type 0 where
+pub record RunViolates (code : Places) (ints : List ℤ) (pc : ℕ) (kind : Kind) : Type 0 where
   pub steps : ℕ
   pub state : State
   pub reached : after code steps (start ints) ≡ Some state
@@ -31,16 +32,16 @@ pub record RunViolates (code : List ℕ) (ints : List ℤ) (pc : ℕ) (kind : Ki
   pub raised : step code state ≡ Raised kind
 
 -- the run of an input violates a kind at a pc of the code
-pub record Violates (code : List ℕ) (input : Input) (pc : ℕ) (kind : Kind) : Type 0 where
+pub record Violates (code : Places) (input : Input) (pc : ℕ) (kind : Kind) : Type 0 where
   pub ints : List ℤ
   pub args : HasInts input ints
   pub run : RunViolates code ints pc kind
 
 -- no run of these ints comes to a state where it is stuck
-abbrev pub NeverStuck : List ℕ → List ℤ → Type 0
+abbrev pub NeverStuck : Places → List ℤ → Type 0
 NeverStuck code ints =
     (steps : ℕ) (state : State) → after code steps (start ints) ≡ Some state → step code state ≡ Stuck → ⊥
 
 -- no run of an input of the method is stuck
-abbrev pub RunsGoOn : List ℕ → MethodId → Type 0
+abbrev pub RunsGoOn : Places → MethodId → Type 0
 RunsGoOn code method = (input : Input) → (is : IsInput method input) → NeverStuck code is.ints

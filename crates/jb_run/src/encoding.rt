@@ -10,7 +10,7 @@ use crate::formula::Formula;
 use crate::frame::Frame;
 use crate::gates::Bit;
 use crate::int_bits::{IntBits, unknown};
-use cf_thin::{go_forward, thin_instr_at, weaker_order};
+use cf_thin::{ThinInstr, go_forward, thin_instr_at, weaker_order};
 use jv_base::{Kind, List, Mem};
 use std::alloc::Global;
 
@@ -96,7 +96,7 @@ fn take_at(encoder: &mut Encoder, pc: u16) -> Option<Frame>
 }
 
 // The instruction at a pc, where a frame waits for it.
-fn visit(encoder: &mut Encoder, code: &[u8], pc: u16) -> Mem<()>
+fn visit(encoder: &mut Encoder, code: &[Option<(ThinInstr, u16)>], pc: u16) -> Mem<()>
     requires { length code.now ≤ 65535 }
     ensures { OnOk result (specs.Visits code.now encoder.old encoder.new pc) }
 {
@@ -111,7 +111,7 @@ fn visit(encoder: &mut Encoder, code: &[u8], pc: u16) -> Mem<()>
 }
 
 /// The encoding of thin code whose first locals are `params` ints.
-pub fn encode(alloc: Global, code: &[u8], params: usize) -> Mem<Encoding>
+pub fn encode(alloc: Global, code: &[Option<(ThinInstr, u16)>], params: usize) -> Mem<Encoding>
     requires { length code.now ≤ 65535 }
     ensures { IfOk result (λ encoding. (gives_int : Bool) (max_stack max_locals : ℕ) → ThinCode code.now params gives_int max_stack max_locals → Represents code.now params encoding) }
 {

@@ -232,7 +232,7 @@ fn execute(state: State, instr: ThinInstr, next: u16) -> Mem<Outcome>
 }
 
 /// One step of thin code.
-pub fn step(code: &[u8], state: State) -> Mem<Outcome>
+pub fn step(code: &[Option<(ThinInstr, u16)>], state: State) -> Mem<Outcome>
     requires { length code.now ≤ 65535 }
     ensures { IfOk result (λ o. o ≡ machine.step code.now state) }
 {
@@ -260,7 +260,11 @@ pub fn start(alloc: Global, ints: &[i32]) -> Mem<State>
 /// Where the run of these ints raises a fault, and the kind. None where it raises none. The run ends: it has no more steps
 /// than the code has bytes.
 #[tactic(auto, using(crate::proofs::MachineLemmas::run_ends))]
-pub fn violated(alloc: Global, code: &[u8], ints: &[i32]) -> Mem<Option<(u16, Kind)>>
+pub fn violated(
+    alloc: Global,
+    code: &[Option<(ThinInstr, u16)>],
+    ints: &[i32],
+) -> Mem<Option<(u16, Kind)>>
     requires { length code.now ≤ 65535 }
     ensures violates { IfOk result (λ found. (pc : ℕ) (kind : Kind) → (found ≡ Some (pc, kind)) ↔ RunViolates code.now ints.now pc kind) }
     ensures ends { (n : ℕ) (state : State) → machine.after code.now n (machine.start ints.now) ≡ Some state → n ≤ length code.now }
@@ -281,6 +285,8 @@ pub fn violated(alloc: Global, code: &[u8], ints: &[i32]) -> Mem<Option<(u16, Ki
 mod tests {
     use super::*;
     use crate::random_runs::RANDOM;
+    use cf_code::decode;
+    use cf_thin::places_of_code;
     use std::process::Abort;
     use std::test::Fail;
 
@@ -354,7 +360,7 @@ mod tests {
     // One run of code, against its row.
     fn check<R: Abort + AllocGlobal>(
         rt: &R,
-        code: &[u8],
+        bytes: &[u8],
         ints: &str,
         pc: &str,
     ) -> Result<(), Fail> {
@@ -362,15 +368,18 @@ mod tests {
         for word in ints.split_whitespace() {
             numbers.push(word.parse::<i32>()?)?;
         }
-        assert!(rt; code.len() <= 65535);
-        let found = match violated(rt.alloc(), code, numbers.as_slice())? {
+        assert!(rt; bytes.len() <= 65535);
+        let placed = decode(rt.alloc(), bytes).expect(rt, "code");
+        let code = places_of_code(rt.alloc(), placed.as_slice())?;
+        assert!(rt; code.length() <= 65535);
+        let found = match violated(rt.alloc(), code.as_slice(), numbers.as_slice())? {
             Some((pc, Kind::Null)) => format!(in rt.alloc(); "{pc}")?,
             other => format!(in rt.alloc();
                 "{}",
                 if other.is_none() { "-" } else { "another kind" }
             )?,
         };
-        assert!(rt; found.as_str() == pc, "{code:?} {ints}");
+        assert!(rt; found.as_str() == pc, "{bytes:?} {ints}");
         Ok(())
     }
 

@@ -40,7 +40,7 @@ fn push_goals(
 
 /// The goals of code that is instructions from its first byte to its last: for each `athrow` in the order of the pcs, the
 /// kinds null and assert.
-pub fn sites(alloc: Global, method: &MethodId, code: &[u8]) -> Mem<List<Goal>>
+pub fn sites(alloc: Global, method: &MethodId, code: &[Option<(ThinInstr, u16)>]) -> Mem<List<Goal>>
     requires short { length code.now ≤ 65535 }
     requires instrs { HasInstrs code.now }
     ensures { IfOk result (IsSites method.now code.now) }

@@ -1,5 +1,7 @@
 // The top call: from the words and the folder to the text in the sink.
 ghost use Rattle.std.specs.Prelude.{◌≡◌, ◌≤◌, ◌++◌, ℕ, Bool, [], ◌∷◌, codes, string_bytes, IfOk, IfSome, IsSome, MatchOption, IfNone, ◌⊎◌, None};
+ghost use Rattle.cf_class.specs.declared.class_file.ClassFile.{ClassFile as class_file};
+ghost use Rattle.cf_class.specs.Content.{IsClass};
 ghost use Rattle.cf_thin.specs.Thin.{int_descriptor};
 ghost use Rattle.io_edges.specs.Faults.{Rose};
 ghost use Rattle.io_edges.specs.Sink.{Adds};
@@ -12,6 +14,8 @@ use crate::report::{Asked, Line, Ran, Report, Status, Was, World};
 use crate::text::{NO_MEMORY, failures, output};
 use crate::verdicts::verdicts;
 use crate::words::{Command, WordsFault, read_words};
+use cf_class::{ClassFile, one_class, read_class};
+use cf_structure::ClassFault;
 use cf_thin::read_thin;
 use io_edges::{Folder, Got, Put, Sink};
 use jv_base::{List, Mem, MethodId, Name};
@@ -52,12 +56,28 @@ fn int_params(desc: &Name) -> usize
     desc.length().saturating_sub(3)
 }
 
-// The lines of the thin method of the entry, where the bytes have one.
+// The class file that the bytes are, if they are one.
+fn class_of(alloc: Global, bytes: &[u8]) -> Mem<Option<ClassFile>>
+    ensures class { IfOk result (λ o. IfSome o (λ c. IsClass bytes.now c)) }
+    ensures none { IfOk result (λ o. IfNone o ((c : class_file) → IsClass bytes.now c → ⊥)) }
+{
+    match read_class(alloc, bytes) {
+        Ok(class) => Ok(Some(class)),
+        Err(ClassFault::Malformed(_)) => Ok(None),
+        Err(ClassFault::NoMemory) => Err(AllocError),
+    }
+}
+
+// The lines of the thin method of the entry, where the bytes are a class file with one.
 fn judge(alloc: Global, entry: &MethodId, bytes: &[u8]) -> Mem<Option<List<Line>>>
     ensures lines { IfOk result (λ o. IfSome o (λ lines. cause.AreLinesOf bytes.now entry.now lines)) }
     ensures none { IfOk result (λ o. IfNone o (cause.HasNoLines entry.now (Was.Found bytes.now))) }
 {
-    let Some(method) = read_thin(alloc, bytes, entry)? else {
+    one_class();
+    let Some(class) = class_of(alloc, bytes)? else {
+        return Ok(None);
+    };
+    let Some(method) = read_thin(alloc, &class, entry)? else {
         return Ok(None);
     };
     let params = int_params(&entry.desc);

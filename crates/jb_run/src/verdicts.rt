@@ -16,6 +16,7 @@ use crate::int_bits::IntBits;
 use crate::report::{Line, Verdict};
 use crate::sites::sites;
 use crate::solver::{Answer, solve};
+use cf_thin::ThinInstr;
 use jv_base::{Goal, Input, List, Mem, MethodId, Tree};
 use std::alloc::Global;
 
@@ -73,7 +74,12 @@ fn decide(alloc: Global, encoding: &Encoding, goal: &Goal) -> Mem<Verdict>
 }
 
 /// A line for each site of the method, in order, with a verdict that is true of the method.
-pub fn verdicts(alloc: Global, method: &MethodId, code: &[u8], params: usize) -> Mem<List<Line>>
+pub fn verdicts(
+    alloc: Global,
+    method: &MethodId,
+    code: &[Option<(ThinInstr, u16)>],
+    params: usize,
+) -> Mem<List<Line>>
     requires short { length code.now ≤ 65535 }
     requires instrs { HasInstrs code.now }
     ensures sites { IfOk result (λ lines. IsSites method.now code.now (map (λ line. line.goal) lines)) }

@@ -4,8 +4,8 @@ use Rattle.std.specs.Prelude.{slice_get, slice_set, Option, Some, None, option_a
 use Rattle.cf_thin.specs.declared.shape.Shape.{Shape}
 use Rattle.cf_thin.specs.declared.shape.Limits.{Limits}
 use Rattle.cf_thin.specs.declared.instr.ThinInstr.{ThinInstr}
-use Rattle.cf_thin.specs.Instr.{instr_at}
-use Rattle.cf_thin.specs.ThinCode.{IsStart, target_of, falls_through, Shapes, IsLed, Flows, Fits, entry_locals}
+use Rattle.cf_thin.specs.Instr.{target_of, Places, instr_at}
+use Rattle.cf_thin.specs.ThinCode.{IsStart, falls_through, Shapes, IsLed, Flows, Fits, entry_locals}
 
 -- where two shapes meet, a local is known to have an int where both know it
 abbrev pub both_known : List Bool → List Bool → List Bool
@@ -62,7 +62,7 @@ abbrev pub Covers : List (Option Shape) → Shapes → Type 0
 Covers found shapes = (pc : ℕ) (shape : Shape) → shape_at found pc ≡ Some shape → IsLed shapes shape pc
 
 -- the shapes that are found fit, and those below a pc flow
-pub record IsSound (code : List ℕ) (limits : Limits) (found : List (Option Shape)) (pc : ℕ) : Type 0 where
+pub record IsSound (code : Places) (limits : Limits) (found : List (Option Shape)) (pc : ℕ) : Type 0 where
   pub long : length found ≡ length code
   pub entry : (shape : Shape) × (shape_at found 0 ≡ Some shape)
       × (shape.locals ≡ entry_locals limits.params limits.max_locals) × (shape.stack ≡ [])
@@ -71,26 +71,26 @@ pub record IsSound (code : List ℕ) (limits : Limits) (found : List (Option Sha
       → Flows code limits (shape_at found) at shape
 
 -- of each byte, whether an instruction begins there
-pub record AreStarts (code : List ℕ) (starts : List Bool) : Type 0 where
+pub record AreStarts (code : Places) (starts : List Bool) : Type 0 where
   pub long : length starts ≡ length code
   pub sound : (pc : ℕ) → slice_get starts pc ≡ Some true → IsStart code pc
   pub complete : (pc : ℕ) → IsStart code pc → slice_get starts pc ≡ Some true
 
 -- each instruction that begins is whole
-abbrev pub AreWhole : List ℕ → Type 0
+abbrev pub AreWhole : Places → Type 0
 AreWhole code = (pc : ℕ) → IsStart code pc → (instr : ThinInstr) × (next : ℕ) × (instr_at code pc ≡ Some (instr, next))
 
 -- the jump at a pc goes to where an instruction begins
-abbrev pub IsAimed : List ℕ → ℕ → Type 0
+abbrev pub IsAimed : Places → ℕ → Type 0
 IsAimed code pc = (next target : ℕ) (instr : ThinInstr) → instr_at code pc ≡ Some (instr, next)
     → target_of instr ≡ Some target → IsStart code target
 
 -- each jump goes to where an instruction begins
-abbrev pub AreAimed : List ℕ → Type 0
+abbrev pub AreAimed : Places → Type 0
 AreAimed code = (pc : ℕ) → IsStart code pc → IsAimed code pc
 
 -- where the next instruction begins, when a pc is passed
-abbrev pub GoesOn : List ℕ → ℕ → ℕ → ℕ → Type 0
+abbrev pub GoesOn : Places → ℕ → ℕ → ℕ → Type 0
 GoesOn code pc next after =
     ((pc ≢ next) × (after ≡ next)) ⊎ ((pc ≡ next) × (instr : ThinInstr) × (instr_at code pc ≡ Some (instr, after)))
 

@@ -1,6 +1,5 @@
 -- Instructions end and jump forward.
-use Rattle.cf_thin.proofs.InstrLemmas.{instr_ends}
-use Rattle.cf_thin.proofs.TargetLemmas.{target_forward}
+use Rattle.cf_thin.proofs.InstrLemmas.{instr_ends, target_forward}
 use Rattle.cf_thin.proofs.laws.go_forward.Goals as goal
 
 pub returns : goal.returns

@@ -1,8 +1,9 @@
 use Rattle.std.proofs.Common.{◌+◌, sym, refl, IsTrue}
 use Rattle.std.proofs.lemmas.Option.{MatchOption-at_none, MatchOption-at_some}
 use Rattle.std.proofs.lemmas.Result.{IfOk-weaker}
+use Rattle.cf_thin.specs.Instr.{target_of}
 use Rattle.cf_thin.specs.declared.shape.Shape.{Shape}
-use Rattle.cf_thin.specs.ThinCode.{Shapes, MeetsRules, Steps, target_of}
+use Rattle.cf_thin.specs.ThinCode.{Shapes, MeetsRules, Steps}
 use Rattle.cf_thin.specs.Calls.Passes.{Covers, IsSound, FlowsTo, CannotFlow, fall_of}
 use Rattle.cf_thin.proofs.LeadLemmas.{shape_found}
 use Rattle.cf_thin.proofs.VisitLemmas.{visit_locals, visit_sound, visit_steps, visit_instr, visit_covers}
