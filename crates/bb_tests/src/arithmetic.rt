@@ -160,7 +160,7 @@ fn make<R: Abort + AllocGlobal, const W: usize>(rt: &R, call: Call, word: &[Lit;
     }
 }
 
-fn put_bits<R: Abort>(rt: &R, values: &mut List<bool>, width: usize, number: u64) {
+pub(crate) fn put_bits<R: Abort>(rt: &R, values: &mut List<bool>, width: usize, number: u64) {
     let mut rest = number;
     for _ in 0..width {
         values.add(rest % 2 == 1).expect(rt, "memory");
@@ -169,7 +169,7 @@ fn put_bits<R: Abort>(rt: &R, values: &mut List<bool>, width: usize, number: u64
 }
 
 /// The number that the literals show, the lowest bit first.
-fn shown<R: Abort>(rt: &R, a: &Assignment, lits: &[Lit]) -> u64 {
+pub(crate) fn shown<R: Abort>(rt: &R, a: &Assignment, lits: &[Lit]) -> u64 {
     let mut number = 0_u64;
     for lit in lits.iter().rev() {
         number = number

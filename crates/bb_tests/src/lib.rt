@@ -1,5 +1,5 @@
-//! Tests of the public calls of formulas, gates and arithmetic. What they expect was worked out by hand, or with
-//! numbers.
+//! Tests of the public calls of formulas, gates and arithmetic, and of those from terms to clauses. What they expect was worked
+//! out by hand, or with numbers.
 #![tactic(auto)]
 
 #[cfg(test)]
@@ -10,3 +10,5 @@ mod clauses;
 mod extension;
 #[cfg(test)]
 mod gates;
+#[cfg(test)]
+mod terms;
