@@ -2,6 +2,7 @@
 -- stands for, and each Code with its instructions.
 use Rattle.std.specs.Prelude.{◌≡◌, ℕ, List, map}
 use Rattle.std.specs.List.{AllZip}
+use Rattle.cf_pool.specs.Laws.{IsBytes}
 use Rattle.cf_pool.specs.declared.entry.PoolEntry.{PoolEntry}
 use Rattle.cf_structure.specs.declared.code.Row as structure
 use Rattle.cf_structure.specs.Raw.{RawSkipped, RawCode, RawBody, constant, code, skipped, RawAttribute, RawMember, RawFile}
@@ -87,3 +88,7 @@ pub record IsClass (bytes : List ℕ) (c : ClassFile) : Type 0 where
   pub file : RawFile
   pub in_order : IsInOrder bytes file
   pub content : IsContent file c
+
+-- some file is this class
+abbrev pub HasFile : ClassFile → Type 0
+HasFile c = (bytes : List ℕ) × IsBytes bytes × IsClass bytes c

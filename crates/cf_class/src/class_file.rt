@@ -5,7 +5,7 @@ ghost use Rattle.cf_structure.specs.ClassFile.{Names};
 ghost use Rattle.cf_structure.specs.Views.{class_of, file_of};
 ghost use Rattle.cf_judge.specs.Texts.{AreTexts};
 ghost use Rattle.cf_bodies.specs.Passes.{IsFaultOf};
-ghost use Rattle.cf_class.specs.Content.{IsClassNamed, IsContent, IsClass};
+ghost use Rattle.cf_class.specs.Content.{IsClassNamed, IsContent, IsClass, HasFile};
 ghost use Rattle.cf_class.specs.Calls.Contents.{AreNames, HasContent, HaveContent, HaveBodies, class_codes};
 
 use crate::attribute::{Attribute, attribute_list};
@@ -94,6 +94,7 @@ fn class_content(
 /// else of the code of its methods: a place in bytes from the start, and the word for what is wrong there.
 pub fn read_class(alloc: Global, bytes: &[u8]) -> Result<ClassFile, ClassFault>
     ensures found { IfOk result (λ c. IsClass bytes.now c) }
+    ensures file { IfOk result (λ c. HasFile c) }
     ensures fault { IfErr result (Names (IsFaultOf bytes.now)) }
     ensures outside { IfErr result (Names (λ _. (c : ClassFile) → IsClass bytes.now c → ⊥)) }
 {

@@ -5,9 +5,9 @@ use Rattle.cf_structure.specs.declared.fault.ClassFault.{ClassFault}
 use Rattle.cf_structure.specs.declared.fault.ClassFault.TheVariants.{Malformed, NoMemory}
 use Rattle.cf_structure.specs.Laws.{Spelled}
 use Rattle.cf_class.specs.declared.class_file.ClassFile.{ClassFile}
-use Rattle.cf_class.specs.Content.{IsClass}
+use Rattle.cf_class.specs.Content.{HasFile, IsClass}
 use Rattle.cf_class.specs.Laws.{OneClass}
-use Rattle.cf_write.specs.Written.{HasFile, IsEachFile}
+use Rattle.cf_write.specs.Written.{IsEachFile}
 use Rattle.cf_write.specs.Laws.{IsReading}
 use Rattle.cf_write.specs.Calls.Texts.{file_text, CodesFit}
 use Rattle.cf_write.proofs.TextLemmas.{file_same}

@@ -2,8 +2,8 @@
 ghost use Rattle.std.specs.Prelude.{◌≡◌, ◌++◌, IfOk, OnOk};
 ghost use Rattle.std.specs.List.{flat_map};
 ghost use Rattle.cf_structure.specs.Spelled.{counted_text};
-ghost use Rattle.cf_class.specs.Content.{IsClass};
-ghost use Rattle.cf_write.specs.Written.{HasFile, IsEachFile};
+ghost use Rattle.cf_class.specs.Content.{IsClass, HasFile};
+ghost use Rattle.cf_write.specs.Written.{IsEachFile};
 ghost use Rattle.cf_write.specs.Calls.Texts.{named_text, names_text, version_text, members_text, file_text, CodesFit};
 
 use crate::attribute::put_attributes;

@@ -25,6 +25,14 @@ fn put_pair(out: &mut List<u8>, tag: u8, first: u16, second: u16) -> Mem<()>
     put_two(out, second)
 }
 
+/// Puts a tag and the bytes of a number at the end.
+fn put_number(out: &mut List<u8>, tag: u8, bytes: &[u8]) -> Mem<()>
+    ensures { OnOk result (out.new ≡ out.old ++ tag ∷ bytes.now) }
+{
+    out.add(tag)?;
+    out.extend(bytes)
+}
+
 /// Puts an entry behind its tag at the end. An index without an entry takes no bytes.
 fn put_entry(alloc: Global, out: &mut List<u8>, entry: &PoolEntry) -> Mem<()>
     ensures { OnOk result (out.new ≡ out.old ++ entry_text entry.now) }
@@ -34,44 +42,22 @@ fn put_entry(alloc: Global, out: &mut List<u8>, entry: &PoolEntry) -> Mem<()>
             out.add(1)?;
             put_text(alloc, out, units.as_slice())
         }
-        PoolEntry::Integer(number) => {
-            out.add(3)?;
-            out.extend(&number.to_be_bytes())
-        }
-        PoolEntry::Float(bits) => {
-            out.add(4)?;
-            out.extend(&bits.to_be_bytes())
-        }
-        PoolEntry::Long(number) => {
-            out.add(5)?;
-            out.extend(&number.to_be_bytes())
-        }
-        PoolEntry::Double(bits) => {
-            out.add(6)?;
-            out.extend(&bits.to_be_bytes())
-        }
+        PoolEntry::Integer(number) => put_number(out, 3, &number.to_be_bytes()),
+        PoolEntry::Float(bits) => put_number(out, 4, &bits.to_be_bytes()),
+        PoolEntry::Long(number) => put_number(out, 5, &number.to_be_bytes()),
+        PoolEntry::Double(bits) => put_number(out, 6, &bits.to_be_bytes()),
         PoolEntry::Class(name) => put_index(out, 7, *name),
         PoolEntry::Str(text) => put_index(out, 8, *text),
-        PoolEntry::Field(class, name_and_type) => put_pair(out, 9, *class, *name_and_type),
-        PoolEntry::Method(class, name_and_type) => put_pair(out, 10, *class, *name_and_type),
-        PoolEntry::InterfaceMethod(class, name_and_type) => put_pair(
-            out,
-            11,
-            *class,
-            *name_and_type,
-        ),
+        PoolEntry::Field(class, member) => put_pair(out, 9, *class, *member),
+        PoolEntry::Method(class, member) => put_pair(out, 10, *class, *member),
+        PoolEntry::InterfaceMethod(class, member) => put_pair(out, 11, *class, *member),
         PoolEntry::NameAndType(name, descriptor) => put_pair(out, 12, *name, *descriptor),
         PoolEntry::MethodHandle(kind, index) => {
             out.add(15)?;
             put_index(out, *kind, *index)
         }
         PoolEntry::MethodType(descriptor) => put_index(out, 16, *descriptor),
-        PoolEntry::InvokeDynamic(bootstrap, name_and_type) => put_pair(
-            out,
-            18,
-            *bootstrap,
-            *name_and_type,
-        ),
+        PoolEntry::InvokeDynamic(method, member) => put_pair(out, 18, *method, *member),
         PoolEntry::Unusable => Ok(()),
     }
 }

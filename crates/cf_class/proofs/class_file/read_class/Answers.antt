@@ -3,6 +3,7 @@ use Rattle.std.proofs.lemmas.Result.{err_from_is_err_and}
 use Rattle.std.proofs.lemmas.List.Elements.{All-from_get_or}
 use Rattle.cf_pool.specs.Laws.{IsBytes}
 use Rattle.cf_structure.specs.Views.{file_of}
+use Rattle.cf_bodies.specs.Passes.{IsInOrder}
 use Rattle.cf_class.specs.Calls.Contents.{class_codes}
 use Rattle.jv_list.proofs.ZipLemmas.{all_beside}
 use Rattle.cf_class.proofs.CodesLemmas.{bodies_are, bodies_there}
@@ -21,6 +22,21 @@ pub class_content-requires-clause-bodies : goal.class_content-requires-clause-bo
 class_content-requires-clause-bodies c =
     let file = file_of c.in_ok-structure.structure in
     bodies_there file c.in_ok-structure.ensures.spelled.0 c.in_ok-bodies.bodies c.in_ok-bodies.ensures.bodies
+
+pub returns-clause-file : goal.returns-clause-file
+returns-clause-file c =
+    let bytes = c.args.bytes.now in
+    let fits : IsBytes bytes = All-from_get_or (λ b. b < 256) bytes 0 (λ i lt. omega (arith, c.type_inv.bytes i)) in
+    let ordered : IsInOrder bytes (file_of c.in_ok-structure.structure) = record {
+      structure = c.in_ok-structure.ensures.found;
+      judged = c.in_ok-texts.ensures.found;
+      bodies = c.in_ok-bodies.ensures.found;
+    } in
+    (bytes, fits, record {
+      file = file_of c.in_ok-structure.structure;
+      in_order = ordered;
+      content = c.in_ok-class.ensures;
+    })
 
 pub returns-in_err-structure-clause-outside : goal.returns-in_err-structure-clause-outside
 returns-in_err-structure-clause-outside c =
