@@ -1,11 +1,11 @@
 -- The height of a list of literals, one after another.
-use Rattle.std.proofs.Common.{◌≡◌, ℕ, ◌+◌, ◌<◌, ◌≤◌, List, [], ◌∷◌, ◌++◌, Some, Contains, slice_get, ◌∙◌, subst, inl}
+use Rattle.std.proofs.Common.{◌≡◌, ℕ, ◌+◌, ◌<◌, ◌≤◌, List, [], ◌∷◌, ◌++◌, Some, Contains, slice_get, sym, ap, ◌∙◌, subst, inl}
 use Rattle.std.proofs.Common.{inr, arith}
 use Rattle.std.proofs.lemmas.List.Elements.{Contains-push, Contains-push_cases, Contains-append_left}
 use Rattle.cn_clauses.specs.declared.lit.Lit.{Lit}
 use Rattle.cn_clauses.specs.Literals.{opposite_of}
 use Rattle.sa_core.specs.TrailView.{Stands}
-use Rattle.sa_core.specs.Analysis.{IsHeight}
+use Rattle.sa_core.specs.Analysis.{IsHeight, NoHighest}
 
 module _ (trail lits : List Lit) (height : ℕ) (lit : Lit) (place : ℕ) (was : IsHeight trail lits height)
     (is : slice_get trail place ≡ Some (opposite_of lit)) where
@@ -40,3 +40,13 @@ module _ (trail lits : List Lit) (height : ℕ) (lit : Lit) (place : ℕ) (was :
               | inr top ↦ inr (top.0, top.1, Contains-append_left lits (lit ∷ []) top.0 top.2, e ∙ top.3, top.4)
             ];
       }
+
+-- a literal that did not become false just before a limit
+pub none_more : (trail lits : List Lit) (limit : ℕ) (lit : Lit) → NoHighest trail lits limit
+    → ((place : ℕ) → limit ≡ place + 1 → slice_get trail place ≡ Some (opposite_of lit) → ⊥)
+    → NoHighest trail (lits ++ lit ∷ []) limit
+none_more trail lits limit lit was not one h =
+    elim (Contains-push_cases lits lit one h.within) [
+      | inl before ↦ was one (record { within = before; place = h.place; at = h.at; is = h.is })
+      | inr same ↦ not h.place h.at (h.is ∙ ap (λ (l : Lit). Some (opposite_of l)) (sym same))
+    ]

@@ -1,17 +1,16 @@
 -- A trail that grows, or is cut: what stands, is open, settled or justified before a place.
 use Rattle.std.proofs.Common.{◌≡◌, ◌⊎◌, ℕ, zero, suc, ◌+◌, ◌<◌, ◌≤◌, List, [], ◌∷◌, ◌++◌, length, take, Option, Some}
-use Rattle.std.proofs.Common.{None, Contains, slice_get, sym, ap, ◌∙◌, subst, inl, inr, arith, length-append}
+use Rattle.std.proofs.Common.{None, slice_get, sym, ap, ◌∙◌, subst, inl, inr, arith, length-append}
 use Rattle.std.proofs.lemmas.Option.{slice_get_within, same_Some, none-some}
-use Rattle.std.proofs.lemmas.Bool.{cases_lt}
-use Rattle.jv_list.proofs.PlaceLemmas.{slice_get-push_other}
+use Rattle.jv_list.proofs.PlaceLemmas.{slice_get-push_last, slice_get-push_other}
 use Rattle.cn_clauses.specs.declared.lit.Lit.{Lit}
 use Rattle.cn_clauses.specs.Literals.{opposite_of}
 use Rattle.sa_core.specs.declared.step.Step.{Step}
 use Rattle.sa_core.specs.TrailView.{lits_of, Stands, IsOpen, Grows}
-use Rattle.sa_core.specs.SolverView.{IsSettled, ByTrue, ByOpen, IsCovered, IsUnit, IsJustifiedBy, AreJustified}
+use Rattle.sa_core.specs.SolverView.{IsSettled, ByTrue, ByOpen, IsUnit, IsJustifiedBy, AreJustified}
 use Rattle.jv_list.proofs.ElementLemmas.{one_at, some_at, from_take}
 use Rattle.sa_core.proofs.LitLemmas.{cases_lit}
-use Rattle.sa_core.proofs.TrailLemmas.{at_lit, step_at, lits_length}
+use Rattle.sa_core.proofs.TrailLemmas.{at_lit, step_at, lits_length, lits_push}
 
 take_shorter : (n : ℕ) (steps : List Step) → length (take n steps) ≤ length steps
 take_shorter zero steps = omega arith
@@ -141,7 +140,7 @@ none_here : (x : Lit) (xs : List Lit) (lit : Lit) → (x ≡ lit → ⊥) → ((
 none_here x xs lit ne none zero e = ne (same_Some x lit e)
 none_here x xs lit ne none (suc i) e = none i e
 
-at_or_not : (xs : List Lit) (lit : Lit)
+pub at_or_not : (xs : List Lit) (lit : Lit)
     → ((i : ℕ) × (slice_get xs i ≡ Some lit)) ⊎ ((i : ℕ) → slice_get xs i ≡ Some lit → ⊥)
 at_or_not [] lit = inr (λ i e. none-some lit e)
 at_or_not (x ∷ xs) lit =
@@ -154,91 +153,13 @@ at_or_not (x ∷ xs) lit =
           ]
     ]
 
--- a clause that is covered from a place on is so from an earlier one on
-pub covered_from : (trail : List Lit) (later start : ℕ) (lits : List Lit) → start ≤ later → IsCovered trail later lits
-    → IsCovered trail start lits
-covered_from trail later start lits le (inl settled) = inl settled
-covered_from trail later start lits le (inr w) =
-    let at : later ≤ w.place = w.later in
-    inr (record { lit = w.lit; within = w.within; place = w.place; later = omega (arith, le, at); is = w.is })
-
-module _ (old new : List Step) (grows : Grows old new) where
-  -- an open literal stays open, or it becomes true, or its opposite does
-  open_after : (lit : Lit) → IsOpen (lits_of old) (length (lits_of old)) lit
-      → IsOpen (lits_of new) (length (lits_of new)) lit
-      ⊎ (Stands (lits_of new) (length (lits_of new)) lit
-      ⊎ ((place : ℕ) × (length old ≤ place) × (slice_get (lits_of new) place ≡ Some (opposite_of lit))))
-  open_after lit unset =
-      elim (at_or_not (lits_of new) lit) [
-        | inl found ↦
-            inr
-            (inl
-            (record {
-              place = found.0;
-              before = slice_get_within (lits_of new) found.0 lit found.1;
-              is = found.1;
-            }))
-        | inr missing ↦
-            elim (at_or_not (lits_of new) (opposite_of lit)) [
-              | inl found ↦
-                  elim (cases_lt found.0 (length old)) [
-                    | inl lt ↦
-                        let is = was_lit old new grows found.0 (opposite_of lit) lt found.1 in
-                        absurd
-                        (unset.not_false
-                        (record {
-                          place = found.0;
-                          before = slice_get_within (lits_of old) found.0 (opposite_of lit) is;
-                          is = is;
-                        }))
-                    | inr le ↦ inr (inr (found.0, le, found.1))
-                  ]
-              | inr none ↦ inl (record { not_true = λ s. missing s.place s.is; not_false = λ s. none s.place s.is })
-            ]
-      ]
-
-  by_given : (lits : List Lit) (lit : Lit) → Contains lits lit
-      → Stands (lits_of new) (length (lits_of new)) lit
-      ⊎ ((place : ℕ) × (length old ≤ place) × (slice_get (lits_of new) place ≡ Some (opposite_of lit)))
-      → IsCovered (lits_of new) (length old) lits
-  by_given lits lit has (inl stands) = inl (ByTrue lit has stands)
-  by_given lits lit has (inr given) =
-      inr (record { lit = lit; within = has; place = given.0; later = given.1; is = given.2 })
-
-  -- a clause that is settled stays so, or one of its literals got its opposite
-  pub settled_or_waiting : (lits : List Lit) → IsSettled (lits_of old) (length (lits_of old)) lits
-      → IsCovered (lits_of new) (length old) lits
-  settled_or_waiting lits (ByTrue lit has stands) =
-      let le : length old ≤ length new = grows.longer in
-      let lt : stands.place < length (lits_of old) = stands.before in
-      inl
-      (ByTrue lit has
-      (record {
-        place = stands.place;
-        before = omega (arith, le, lt, lits_length old, lits_length new);
-        is = kept_lit old new grows stands.place lit stands.is;
-      }))
-  settled_or_waiting lits (ByOpen one other has_one has_other apart first second) =
-      elim (open_after one first) [
-        | inl one_open ↦
-            elim (open_after other second) [
-              | inl other_open ↦ inl (ByOpen one other has_one has_other apart one_open other_open)
-              | inr given ↦ by_given lits other has_other given
-            ]
-        | inr given ↦ by_given lits one has_one given
-      ]
-
-  -- a clause that is covered stays so
-  pub covered_kept : (start : ℕ) (lits : List Lit) → start ≤ length old → IsCovered (lits_of old) start lits
-      → IsCovered (lits_of new) start lits
-  covered_kept start lits le (inl settled) =
-      covered_from (lits_of new) (length old) start lits le (settled_or_waiting lits settled)
-  covered_kept start lits le (inr w) =
-      inr
-      (record {
-        lit = w.lit;
-        within = w.within;
-        place = w.place;
-        later = w.later;
-        is = kept_lit old new grows w.place (opposite_of w.lit) w.is;
-      })
+-- a literal that is pushed stands
+pub pushed_stands : (steps new : List Step) (step : Step) (lit : Lit) → new ≡ steps ++ step ∷ [] → step.lit ≡ lit
+    → Stands (lits_of new) (length (lits_of new)) lit
+pushed_stands steps new step lit pushed by =
+    let at_end : slice_get (lits_of new) (length steps) ≡ Some lit =
+    ap (λ (l : List Step). slice_get (lits_of l) (length steps)) pushed
+    ∙ ap (λ (l : List Lit). slice_get l (length steps)) (lits_push steps step)
+    ∙ slice_get-push_last (lits_of steps) step.lit (length steps) (sym (lits_length steps))
+    ∙ ap (λ (l : Lit). Some l) by in
+    record { place = length steps; before = slice_get_within (lits_of new) (length steps) lit at_end; is = at_end }

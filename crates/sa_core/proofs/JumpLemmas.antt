@@ -1,21 +1,49 @@
 -- A learned clause as a search takes it in: the trail is cut, and its first literal is forced.
-use Rattle.std.proofs.Common.{◌≡◌, ℕ, ◌-◌, ◌*◌, ◌<◌, ◌≤◌, List, [], ◌∷◌, ◌++◌, length, take, drop, slice_index_or}
-use Rattle.std.proofs.Common.{Option, Some, Contains, slice_get, sym, ap, ◌∙◌, subst, arith, take_all}
-use Rattle.std.proofs.lemmas.Option.{slice_get_within}
+use Rattle.std.proofs.Common.{◌≡◌, ℕ, ◌-◌, ◌*◌, ◌<◌, ◌≤◌, List, [], ◌∷◌, ◌++◌, length, set, take, drop, slice_index_or}
+use Rattle.std.proofs.Common.{Option, Some, Contains, slice_get, sym, ap, ◌∙◌, subst, inl, inr, arith}
+use Rattle.std.proofs.Common.{take_all}
+use Rattle.jv_list.proofs.MemberLemmas.{first_member}
+use Rattle.jv_list.proofs.PlaceLemmas.{slice_get-push_cases}
+use Rattle.std.proofs.lemmas.Option.{slice_get_within, none-some}
 use Rattle.std.proofs.lemmas.List.Elements.{Contains-append_right}
 use Rattle.cn_clauses.specs.declared.lit.Lit.{Lit}
 use Rattle.cn_clauses.specs.Literals.{opposite_of, variable_of}
 use Rattle.cn_clauses.specs.Laws.{OppositeTwice, OppositeVariable}
 use Rattle.sa_core.specs.declared.step.Step.{Step}
 use Rattle.sa_core.specs.TrailView.{lits_of, IsOpen, IsPlaced, code}
-use Rattle.sa_core.specs.SolverView.{AreSettled, AreCovered, IsJustifiedBy, AreJustified, IsWithin, IsLastDecision}
-use Rattle.sa_core.specs.Analysis.{IsLearnedClause, IsHeight, IsFirstDecision, AreFalseBefore}
+use Rattle.sa_core.specs.SolverView.{AreSettled, IsJustifiedBy, AreJustified, IsWithin, IsLastDecision}
+use Rattle.sa_core.specs.declared.pair.Pair.{Pair}
+use Rattle.sa_core.specs.Watching.{IsTrueBefore, Guards, AreGuarded, WereGuarded}
+use Rattle.sa_core.specs.Analysis.{IsLearnedClause, IsHeight, IsHighest, NoHighest, IsPairOf, IsFirstDecision}
+use Rattle.sa_core.specs.Analysis.{AreFalseBefore}
 use Rattle.sa_core.proofs.LitLemmas.{within_size}
 use Rattle.sa_core.proofs.LearnLemmas.{learned_below}
-use Rattle.sa_core.proofs.SearchLemmas.{limit_low, open_cut, learn_justified, learn_covered, learn_rises, trail_fits}
+use Rattle.sa_core.proofs.SearchLemmas.{limit_low, length_cut, open_cut, learned_guards, learn_justified, learn_rises}
+use Rattle.sa_core.proofs.SearchLemmas.{trail_fits}
+use Rattle.sa_core.proofs.TrailLemmas.{lits_length}
+use Rattle.sa_core.proofs.GrowLemmas.{grows_cut, grows_push, pushed_stands}
+use Rattle.sa_core.proofs.GuardLemmas.{were_push, were_cut, guarded_kept, was_guarded, pair_here, pair_there}
 
 abbrev first_lit : Lit
 first_lit = record { 0 = 0 }
+
+-- the pairs of clauses stay, and one more clause has this pair
+pub record IsKeptButLast (clauses : List (List Lit)) (pairs new : List Pair) (pair : Pair) : Type 0 where
+  pub others : (place : ℕ) (one : Pair) → (place ≡ length clauses → ⊥) → slice_get new place ≡ Some one
+      → slice_get pairs place ≡ Some one
+  pub last : (one : Pair) → slice_get new (length clauses) ≡ Some one → pair ≡ one
+
+pub kept_but_last : (clauses : List (List Lit)) (pairs middle new : List Pair) (pair : Pair) (place : ℕ)
+    → length pairs ≡ length clauses → place ≡ length clauses
+    → ((at : ℕ) (one : Pair) → (at ≡ length pairs → ⊥) → slice_get middle at ≡ Some one → slice_get pairs at ≡ Some one)
+    → new ≡ set middle place pair → place < length middle → IsKeptButLast clauses pairs new pair
+kept_but_last clauses pairs middle new pair place count end more changed within =
+    record {
+      others = λ at one ne is.
+          more at one (λ same. ne (same ∙ count))
+          (sym (pair_there clauses middle new place pair changed within at (λ same. ne (same ∙ end))) ∙ is);
+      last = λ one is. pair_here clauses middle new place pair changed within one (ap (slice_get new) end ∙ is);
+    }
 
 -- the clauses were settled where the last decision was made
 pub settled_at : (clauses : List (List Lit)) (steps : List Step) (mark : ℕ) → AreJustified clauses steps
@@ -99,11 +127,75 @@ module _ (twice : OppositeTwice) (same : OppositeVariable) (clauses : List (List
               learned.learned lower_high first cut is_cut new parts step (by ∙ first_is) reason some end pushed
               is_pushed
 
-          pub jump_covered : AreCovered new (lits_of pushed) from
-          jump_covered =
-              learn_covered twice clauses steps places mark limit from learned.lit learned.lower was justified last
-              learned.learned lower_high first cut is_cut new parts step (by ∙ first_is) reason some end pushed
-              is_pushed
+          -- the clauses were guarded before each decision, this one by its pair
+          pub jump_were : (pairs more_pairs : List Pair) (pair : Pair) → IsPairOf (lits_of steps) lits limit pair
+              → WereGuarded clauses pairs steps → IsKeptButLast clauses pairs more_pairs pair
+              → WereGuarded new more_pairs pushed
+          jump_were pairs more_pairs pair chosen were still =
+              were_push new more_pairs cut pushed step is_pushed
+              (λ n s e none at others one is has.
+              elim (slice_get-push_cases clauses lits others at
+              (ap (λ (l : List (List Lit)). slice_get l at) (sym more) ∙ is)) [
+                | inl old ↦
+                    were_cut cut steps (grows_cut from steps cut is_cut) clauses pairs were n s e none at others one old
+                    (still.others at one
+                    (let lt : at < length clauses = slice_get_within clauses at others old in
+                    λ same. omega (arith, lt, same))
+                    has)
+                | inr ends ↦
+                    inr
+                    (subst (λ (p : Pair). Guards (lits_of cut) n others p)
+                    (still.last one (ap (slice_get more_pairs) (sym ends.0) ∙ has))
+                    (subst (λ (l : List Lit). Guards (lits_of cut) n l pair) (sym learned.is ∙ ends.1)
+                    (subst
+                    (λ (l : Lit). Guards (lits_of cut) n (learned.lit ∷ learned.lower)
+                    (record { first = l; second = pair.second }))
+                    (sym (chosen.first ∙ first_is))
+                    (learned_guards twice clauses steps places mark limit from learned.lit learned.lower was justified
+                    last learned.learned lower_high first cut is_cut pair.second
+                    (elim chosen.highest [
+                      | inl none_high ↦
+                          inl
+                          (subst (λ (l : List Lit). NoHighest (lits_of steps) l limit) rest_is none_high)
+                      | inr found ↦
+                          inr
+                          (subst (λ (l : List Lit). IsHighest (lits_of steps) l limit pair.second) rest_is found)
+                    ])
+                    n s e none))))
+              ])
+              (λ none. absurd (none-some reason (sym none ∙ some)))
+
+          -- and all are from the end of the trail that was left on
+          pub jump_guarded : (pairs more_pairs : List Pair) (pair : Pair) → WereGuarded clauses pairs steps
+              → IsKeptButLast clauses pairs more_pairs pair
+              → AreGuarded new more_pairs (lits_of pushed) from (length (lits_of pushed))
+          jump_guarded pairs more_pairs pair were still at others one is has =
+              let cut_is =
+              length_cut twice clauses steps places mark limit from learned.lit learned.lower was justified last
+              learned.learned lower_high first cut is_cut in
+              let cut_grows = grows_cut from steps cut is_cut in
+              let push_grows = grows_push cut pushed step is_pushed in
+              let longer : length cut ≤ length pushed = push_grows.longer in
+              elim (slice_get-push_cases clauses lits others at
+              (ap (λ (l : List (List Lit)). slice_get l at) (sym more) ∙ is)) [
+                | inl old ↦
+                    let lt : at < length clauses = slice_get_within clauses at others old in
+                    guarded_kept cut pushed push_grows from from (length (lits_of pushed)) others one
+                    (omega (arith, cut_is)) (omega (arith, cut_is, longer, lits_length pushed))
+                    (was_guarded cut steps cut_grows from from others one (omega (arith, cut_is))
+                    (were from first.step first.is first.decided at others one old
+                    (still.others at one (λ same. omega (arith, lt, same)) has)))
+                | inr end_is ↦
+                    inl
+                    (subst (IsTrueBefore (lits_of pushed) (length (lits_of pushed))) end_is.1
+                    (record {
+                      lit = learned.lit;
+                      within =
+                          subst (λ (l : List Lit). Contains l learned.lit) (sym learned.is)
+                          (first_member learned.lit learned.lower);
+                      stands = pushed_stands cut pushed step learned.lit is_pushed (by ∙ first_is);
+                    }))
+              ]
 
           pub jump_rises : code (2 * variables) steps < code (2 * variables) pushed
           jump_rises =

@@ -1,8 +1,10 @@
 pub mod AnalyzeLemmas
 pub mod AnswerLemmas
+pub mod AskLemmas
 pub mod BacktrackLemmas
 pub mod CodeLemmas
 pub mod GrowLemmas
+pub mod GuardLemmas
 pub mod JumpLemmas
 pub mod LearnLemmas
 pub mod LitLemmas
@@ -12,5 +14,8 @@ pub mod PropagateLemmas
 pub mod ReadyLemmas
 pub mod SearchLemmas
 pub mod SolveLemmas
+pub mod StartLemmas
 pub mod StoreLemmas
 pub mod TrailLemmas
+pub mod TurnLemmas
+pub mod WatchLemmas

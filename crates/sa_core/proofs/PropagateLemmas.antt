@@ -1,295 +1,336 @@
--- Propagation: what a clause asks, what a look at it does, and that no clause is left.
-use Rattle.std.proofs.Common.{◌≡◌, ℕ, ◌+◌, ◌<◌, ◌≤◌, true, false, List, [], ◌∷◌, ◌++◌, length, take, Option, Some}
-use Rattle.std.proofs.Common.{None, Contains, slice_get, sym, ap, ◌∙◌, subst, inl, inr, arith}
-use Rattle.std.proofs.lemmas.Option.{slice_get_within, same_Some, none-some}
-use Rattle.std.proofs.lemmas.Bool.{cases_lt}
-use Rattle.std.proofs.lemmas.List.Elements.{Contains-push, Contains-push_cases, Contains-append_left}
-use Rattle.jv_list.proofs.PlaceLemmas.{slice_get-push_last, slice_get-push_cases}
-use Rattle.jv_list.proofs.MemberLemmas.{none_member}
+-- Propagation: a look at a clause that a literal watches, which is false.
+use Rattle.std.proofs.Common.{◌≡◌, ◌⊎◌, ℕ, ◌+◌, ◌<◌, ◌≤◌, List, [], ◌∷◌, ◌++◌, length, Some, None, Contains, slice_get}
+use Rattle.std.proofs.Common.{sym, ap, ◌∙◌, subst, inl, inr, arith}
+use Rattle.std.proofs.lemmas.Option.{slice_get_within}
+use Rattle.std.proofs.lemmas.Bool.{cases_lt, cases_eq}
+use Rattle.jv_list.proofs.ElementLemmas.{place_of, one_at}
 use Rattle.cn_clauses.specs.declared.lit.Lit.{Lit}
 use Rattle.cn_clauses.specs.Literals.{opposite_of}
 use Rattle.cn_clauses.specs.Laws.{OppositeTwice}
 use Rattle.sa_core.specs.declared.step.Step.{Step}
-use Rattle.sa_core.specs.TrailView.{lits_of, Stands, IsOpen, Grows}
-use Rattle.sa_core.specs.SolverView.{IsFalse, IsSettled, ByTrue, AreSettled, IsCovered, AreCovered, IsUnit}
-use Rattle.sa_core.specs.SolverView.{IsJustifiedBy, AreJustified, Adds}
-use Rattle.sa_core.specs.Occurs.{AreListed}
-use Rattle.sa_core.specs.Calls.Propagate.{AsksFor, IsScanned, IsCoveredAt, Visits, VisitsAll, Starts}
-use Rattle.jv_list.proofs.ElementLemmas.{place_of, at_contains, one_at, from_take}
-use Rattle.sa_core.proofs.TrailLemmas.{lits_length, lits_push}
-use Rattle.sa_core.proofs.GrowLemmas.{grows_same, grows_more, grows_push, justified_kept, covered_kept, covered_from}
+use Rattle.sa_core.specs.declared.watches.Watchers.{Watchers}
+use Rattle.sa_core.specs.declared.pair.Pair.{Pair}
+use Rattle.sa_core.specs.TrailView.{lits_of, Stands, Grows}
+use Rattle.sa_core.specs.SolverView.{IsUnit}
+use Rattle.sa_core.specs.Watching.{IsListed, AreListed, IsTrueBefore, Guards, IsGuarded, AreGuarded}
+use Rattle.sa_core.specs.Watching.{IsPlaceAt, IsCount, IsKept}
+use Rattle.sa_core.specs.Calls.Propagate.{IsStale, IsOther, HasTrueOther, AsksForOther, IsAwaited}
+use Rattle.sa_core.specs.Calls.Propagate.{IsTurning, Visits}
+use Rattle.sa_core.proofs.LitLemmas.{cases_lit}
+use Rattle.sa_core.proofs.TrailLemmas.{lits_length}
+use Rattle.sa_core.proofs.GrowLemmas.{grows_push, kept_lit}
+use Rattle.sa_core.proofs.GuardLemmas.{stands_later, guards_before, guarded_on}
+use Rattle.sa_core.proofs.StartLemmas.{push_kept, push_true}
 
--- an element of a front is one of the list
-pub in_front : {X : Type 0} (n : ℕ) (xs : List X) (x : X) → Contains (take n xs) x → Contains xs x
-in_front n xs x h =
-    let p = place_of (take n xs) x h in
-    at_contains xs p.0 x (from_take n xs p.0 x p.1).1
+-- the place at an index of the list
+pub its_place : (lists : List (List ℕ)) (number index place : ℕ) (list : List ℕ) → slice_get lists number ≡ Some list
+    → IsPlaceAt lists number index place → slice_get list index ≡ Some place
+its_place lists number index place list is at =
+    ap (λ (l : List ℕ). slice_get l index) (one_at lists number list at.list is at.is) ∙ at.has
 
--- the literals of a clause, one after another
-module _ (trail : List Lit) (lits : List Lit) where
-  pub scanned_none : IsScanned trail [] None
-  scanned_none = λ lit has. absurd (none_member lit has)
-
-  -- a literal that is false changes nothing
-  pub scanned_false : (lit : Lit) (single : Option Lit) → IsScanned trail lits single
-      → Stands trail (length trail) (opposite_of lit) → IsScanned trail (lits ++ lit ∷ []) single
-  scanned_false lit None was given = λ other has.
-      elim (Contains-push_cases lits lit other has) [
-        | inl old ↦ was other old
-        | inr same ↦ subst (λ (l : Lit). Stands trail (length trail) (opposite_of l)) same given
+-- the parts of a pair
+module _ (pair : Pair) (lit other : Lit) (is : IsOther pair lit other) where
+  pub other_apart : pair.first ≡ pair.second → ⊥
+  other_apart same =
+      elim is.either [
+        | inl e ↦ is.apart (sym e.0 ∙ same ∙ e.1)
+        | inr e ↦ is.apart (sym e.0 ∙ sym same ∙ e.1)
       ]
-  scanned_false lit (Some one) was given =
+
+  pub other_within : (trail : List Lit) (from : ℕ) (lits : List Lit) → Guards trail from lits pair
+      → Contains lits other
+  other_within trail from lits h =
+      elim is.either [ inl e ↦ subst (Contains lits) e.1 h.second | inr e ↦ subst (Contains lits) e.1 h.first ]
+
+  pub other_left : (trail : List Lit) (from : ℕ) (lits : List Lit) → Guards trail from lits pair
+      → Stands trail from (opposite_of other) → ⊥
+  other_left trail from lits h =
+      elim is.either [
+        | inl e ↦ subst (λ (l : Lit). Stands trail from (opposite_of l) → ⊥) e.1 h.second_left
+        | inr e ↦ subst (λ (l : Lit). Stands trail from (opposite_of l) → ⊥) e.1 h.first_left
+      ]
+
+  pub other_listed : (pairs : List Pair) (lists : List (List ℕ)) (place : ℕ) → AreListed pairs lists
+      → slice_get pairs place ≡ Some pair → IsListed lists other.0 place
+  other_listed pairs lists place listed has =
+      let both = listed place pair has other_apart in
+      elim is.either [
+        | inl e ↦ subst (λ (l : Lit). IsListed lists l.0 place) e.1 both.second
+        | inr e ↦ subst (λ (l : Lit). IsListed lists l.0 place) e.1 both.first
+      ]
+
+  -- a literal that is not false takes the place of the one
+  pub turned : (trail : List Lit) (from : ℕ) (lits : List Lit) (new : Pair) → from ≤ length trail
+      → new.second ≡ other → Contains lits new.first → (new.first ≡ other → ⊥)
+      → (Stands trail (length trail) (opposite_of new.first) → ⊥) → Guards trail from lits pair
+      → Guards trail from lits new
+  turned trail from lits new le same within apart left h =
       record {
-        unit =
-            record {
-              within = Contains-append_left lits (lit ∷ []) one was.unit.within;
-              others = λ other has ne.
-                  elim (Contains-push_cases lits lit other has) [
-                    | inl old ↦ was.unit.others other old ne
-                    | inr same ↦ subst (λ (l : Lit). Stands trail (length trail) (opposite_of l)) same given
-                  ];
-            };
-        unset = was.unset;
+        first = within;
+        second = subst (Contains lits) (sym same) (other_within trail from lits h);
+        apart = λ e. apart (e ∙ same);
+        first_left = λ s. left (stands_later trail from (length trail) (opposite_of new.first) le s);
+        second_left =
+            subst (λ (l : Lit). Stands trail from (opposite_of l) → ⊥) (sym same) (other_left trail from lits h);
       }
 
-  -- the first that is open
-  pub scanned_first : (lit : Lit) → IsScanned trail lits None → IsOpen trail (length trail) lit
-      → IsScanned trail (lits ++ lit ∷ []) (Some lit)
-  scanned_first lit was unset =
+module _ (twice : OppositeTwice) (trail : List Lit) (head : ℕ) (lit : Lit)
+    (falsified : slice_get trail head ≡ Some (opposite_of lit)) where
+  left_next : (one : Lit) → (one ≡ lit → ⊥) → (Stands trail head (opposite_of one) → ⊥)
+      → Stands trail (head + 1) (opposite_of one) → ⊥
+  left_next one ne left s =
+      elim (cases_lt s.place head) [
+        | inl lt ↦ left (record { place = s.place; before = lt; is = s.is })
+        | inr le ↦
+            let before : s.place < head + 1 = s.before in
+            let here : s.place ≡ head = omega (arith, le, before) in
+            let same : opposite_of one ≡ opposite_of lit =
+            one_at trail head (opposite_of one) (opposite_of lit) (ap (slice_get trail) (sym here) ∙ s.is) falsified in
+            ne (sym (twice one) ∙ ap opposite_of same ∙ twice lit)
+      ]
+
+  -- a pair without the literal guards from the next place on
+  pub guards_next : (lits : List Lit) (pair : Pair) → (pair.first ≡ lit → ⊥) → (pair.second ≡ lit → ⊥)
+      → Guards trail head lits pair → Guards trail (head + 1) lits pair
+  guards_next lits pair not_first not_second h =
       record {
-        unit =
-            record {
-              within = Contains-push lits lit;
-              others = λ other has ne.
-                  elim (Contains-push_cases lits lit other has) [
-                    | inl old ↦ was other old
-                    | inr same ↦ absurd (ne (sym same))
-                  ];
-            };
-        unset = unset;
+        first = h.first;
+        second = h.second;
+        apart = h.apart;
+        first_left = left_next pair.first not_first h.first_left;
+        second_left = left_next pair.second not_second h.second_left;
       }
 
-  -- the same once more
-  pub scanned_again : (lit one : Lit) → one ≡ lit → IsScanned trail lits (Some one)
-      → IsScanned trail (lits ++ lit ∷ []) (Some one)
-  scanned_again lit one is was =
+module _ (twice : OppositeTwice) (variables : ℕ) (clauses : List (List Lit)) (watchers : Watchers) (steps : List Step)
+    (head : ℕ) (lit : Lit) (index : ℕ) (turning : IsTurning variables clauses watchers steps head lit (index + 1))
+    (place : ℕ) (at : slice_get turning.list index ≡ Some place) where
+  pub awaited_less : (p : ℕ) → (p ≡ place → ⊥) → IsAwaited turning.list (index + 1) p → IsAwaited turning.list index p
+  awaited_less p ne a =
+      elim (cases_lt a.at index) [
+        | inl lt ↦ record { at = a.at; before = lt; is = a.is }
+        | inr le ↦
+            let before : a.at < index + 1 = a.before in
+            let here : a.at ≡ index = omega (arith, le, before) in
+            absurd (ne (one_at turning.list index p place (ap (slice_get turning.list) (sym here) ∙ a.is) at))
+      ]
+
+  pub head_within : head + 1 ≤ length steps
+  head_within =
+      let lt : head < length (lits_of steps) =
+      slice_get_within (lits_of steps) head (opposite_of lit) turning.falsified in
+      omega (arith, lt, lits_length steps)
+
+  -- the clause was guarded from the place on at which the literal became false
+  pub guarded_here : (lits : List Lit) (pair : Pair) → slice_get clauses place ≡ Some lits
+      → slice_get watchers.pairs place ≡ Some pair
+      → IsGuarded (lits_of steps) head (length (lits_of steps)) lits pair
+  guarded_here lits pair is has =
+      elim (turning.passed place lits pair is has) [
+        | inl (inl h) ↦ inl h
+        | inl (inr h) ↦ inr (guards_before (lits_of steps) (head + 1) head lits pair (omega arith) h)
+        | inr w ↦ w.0
+      ]
+
+  -- nothing is changed
+  passed_same : ((lits : List Lit) (pair : Pair) → slice_get clauses place ≡ Some lits
+      → slice_get watchers.pairs place ≡ Some pair
+      → IsGuarded (lits_of steps) (head + 1) (length (lits_of steps)) lits pair)
+      → IsTurning variables clauses watchers steps head lit index
+  passed_same now =
+      let room : index + 1 ≤ length turning.list = turning.room in
       record {
-        unit =
-            record {
-              within = Contains-append_left lits (lit ∷ []) one was.unit.within;
-              others = λ other has ne.
-                  elim (Contains-push_cases lits lit other has) [
-                    | inl old ↦ was.unit.others other old ne
-                    | inr same ↦ absurd (ne (sym same ∙ sym is))
-                  ];
-            };
-        unset = was.unset;
+        kept = turning.kept;
+        falsified = turning.falsified;
+        list = turning.list;
+        is = turning.is;
+        room = omega (arith, room);
+        passed = λ p lits pair is has.
+            elim (cases_eq p place) [
+              | inl same ↦
+                  inl
+                  (now lits pair (ap (slice_get clauses) (sym same) ∙ is)
+                  (ap (slice_get watchers.pairs) (sym same) ∙ has))
+              | inr ne ↦
+                  elim (turning.passed p lits pair is has) [
+                    | inl done ↦ inl done
+                    | inr w ↦ inr (w.0, awaited_less p ne w.1)
+                  ]
+            ];
       }
 
--- a look at a clause
-module _ (clauses : List (List Lit)) (steps : List Step) (place : ℕ) (lits : List Lit)
-    (is : slice_get clauses place ≡ Some lits) (justified : AreJustified clauses steps) where
-  adds_none : Adds clauses steps steps
-  adds_none = record { grows = grows_same steps; justified = justified }
+  pub visit_past : length clauses ≤ place → IsTurning variables clauses watchers steps head lit index
+  visit_past past =
+      passed_same
+      (λ lits pair is has.
+      let lt : place < length clauses = slice_get_within clauses place lits is in
+      absurd (omega (arith, lt, past)))
 
-  pub visit_nothing : IsSettled (lits_of steps) (length (lits_of steps)) lits → Visits clauses steps steps place true
-  visit_nothing settled =
-      record {
-        adds = adds_none;
-        visited = λ other e.
-            inl
-            (subst (IsSettled (lits_of steps) (length (lits_of steps))) (one_at clauses place lits other is e)
-            settled);
-      }
+  module _ (pair : Pair) (paired : slice_get watchers.pairs place ≡ Some pair) (mine : List Lit)
+      (held : slice_get clauses place ≡ Some mine) where
+    guarded_now : IsGuarded (lits_of steps) head (length (lits_of steps)) mine pair
+    guarded_now = guarded_here mine pair held paired
 
-  pub visit_conflict : IsFalse (lits_of steps) (length (lits_of steps)) lits → Visits clauses steps steps place false
-  visit_conflict fails =
-      record { adds = adds_none; visited = record { lits = lits; stands = is; fails = fails } }
+    -- the clause itself
+    this : (IsGuarded (lits_of steps) (head + 1) (length (lits_of steps)) mine pair) → (lits : List Lit) (other : Pair)
+        → slice_get clauses place ≡ Some lits → slice_get watchers.pairs place ≡ Some other
+        → IsGuarded (lits_of steps) (head + 1) (length (lits_of steps)) lits other
+    this h lits other is has =
+        subst (λ (l : List Lit). IsGuarded (lits_of steps) (head + 1) (length (lits_of steps)) l other)
+        (one_at clauses place mine lits held is)
+        (subst (IsGuarded (lits_of steps) (head + 1) (length (lits_of steps)) mine)
+        (one_at watchers.pairs place pair other paired has) h)
 
-  module _ (lit : Lit) (asks : AsksFor (lits_of steps) lits lit) (step : Step) (by : step.lit ≡ lit)
-      (reason : step.reason ≡ Some place) (new : List Step) (pushed : new ≡ steps ++ step ∷ []) where
-    grows : Grows steps new
-    grows = grows_push steps new step pushed
-
-    implied : (o : Option ℕ) → o ≡ Some place → IsJustifiedBy clauses (lits_of steps) (length steps) step.lit o
-    implied None e = absurd (none-some place e)
-    implied (Some other) e =
-        record {
-          lits = lits;
-          stands = ap (slice_get clauses) (same_Some other place e) ∙ is;
-          unit =
-              subst (λ (l : Lit). IsUnit (lits_of steps) (length steps) lits l) (sym by)
-              (subst (λ (n : ℕ). IsUnit (lits_of steps) n lits lit) (lits_length steps) asks.unit);
-        }
-
-    pub push_justified : AreJustified clauses new
-    push_justified at s e =
-        elim (slice_get-push_cases steps step s at (ap (λ (l : List Step). slice_get l at) (sym pushed) ∙ e)) [
-          | inl old ↦
-              let lt : at < length steps = slice_get_within steps at s old in
-              justified_kept steps new grows clauses at s.lit s.reason (omega (arith, lt)) (justified at s old)
-          | inr last ↦
-              subst (λ (t : Step). IsJustifiedBy clauses (lits_of new) at t.lit t.reason) last.1
-              (subst (λ (n : ℕ). IsJustifiedBy clauses (lits_of new) n step.lit step.reason) (sym last.0)
-              (justified_kept steps new grows clauses (length steps) step.lit step.reason (omega arith)
-              (implied step.reason reason)))
-        ]
-
-    lit_stands : Stands (lits_of new) (length (lits_of new)) lit
-    lit_stands =
-        let at_end : slice_get (lits_of new) (length steps) ≡ Some lit =
-        ap (λ (l : List Step). slice_get (lits_of l) (length steps)) pushed
-        ∙ ap (λ (l : List Lit). slice_get l (length steps)) (lits_push steps step)
-        ∙ slice_get-push_last (lits_of steps) step.lit (length steps) (sym (lits_length steps))
-        ∙ ap (λ (l : Lit). Some l) by in
-        record { place = length steps; before = slice_get_within (lits_of new) (length steps) lit at_end; is = at_end }
-
-    pub visit_literal : Visits clauses steps new place true
-    visit_literal =
-        record {
-          adds = record { grows = grows; justified = push_justified };
-          visited = λ other e.
+    pub visit_nothing : IsStale pair lit ⊎ HasTrueOther (lits_of steps) pair lit
+        → IsTurning variables clauses watchers steps head lit index
+    visit_nothing (inl stale) =
+        passed_same
+        (this
+        (elim guarded_now [
+          | inl h ↦ inl h
+          | inr h ↦
+              let neither = stale h.apart in
+              inr
+              (guards_next twice (lits_of steps) head lit turning.falsified mine pair neither.0 neither.1 h)
+        ]))
+    visit_nothing (inr other) =
+        passed_same
+        (this
+        (elim guarded_now [
+          | inl h ↦ inl h
+          | inr h ↦
               inl
-              (subst (IsSettled (lits_of new) (length (lits_of new))) (one_at clauses place lits other is e)
-              (ByTrue lit asks.unit.within lit_stands));
-        }
+              (record {
+                lit = other.other;
+                within = other_within pair lit other.other other.is (lits_of steps) head mine h;
+                stands = other.stands;
+              })
+        ]))
 
--- a look at several clauses
-module _ (clauses : List (List Lit)) where
-  pub adds_more : (a b c : List Step) → Adds clauses a b → Adds clauses b c → Adds clauses a c
-  adds_more a b c g h = record { grows = grows_more a b c g.grows h.grows; justified = h.justified }
+    -- the other literal is forced
+    module _ (apart : (first second : ℕ) (one : Lit) → slice_get (lits_of steps) first ≡ Some one
+        → slice_get (lits_of steps) second ≡ Some (opposite_of one) → ⊥) (other : Lit)
+        (asks : AsksForOther (lits_of steps) mine pair lit other) where
+      pub other_unit : IsUnit (lits_of steps) (length (lits_of steps)) mine other
+      other_unit =
+          record {
+            within =
+                elim guarded_now [
+                  | inl h ↦
+                      elim (cases_lit h.lit other) [
+                        | inl same ↦ subst (Contains mine) same h.within
+                        | inr ne ↦
+                            let s = asks.others h.lit h.within ne in
+                            absurd (apart h.stands.place s.place h.lit h.stands.is s.is)
+                      ]
+                  | inr h ↦ other_within pair lit other asks.is (lits_of steps) head mine h
+                ];
+            others = asks.others;
+          }
 
-  -- what was covered from the old end on is so after more steps
-  pub covered_at_more : (old mid new : List Step) (place : ℕ) → Grows old mid → Grows mid new
-      → IsCoveredAt clauses (lits_of mid) (length old) place → IsCoveredAt clauses (lits_of new) (length old) place
-  covered_at_more old mid new place g h was lits e =
-      covered_kept mid new h (length old) lits g.longer (was lits e)
+      pub visit_literal : (step : Step) → step.lit ≡ other → step.reason ≡ Some place → (new : List Step)
+          → new ≡ steps ++ step ∷ [] → IsTurning variables clauses watchers new head lit index
+      visit_literal step by reason new pushed =
+          let grows = grows_push steps new step pushed in
+          let room : index + 1 ≤ length turning.list = turning.room in
+          let le = head_within in
+          record {
+            kept =
+                push_kept variables clauses watchers steps turning.kept place mine held other other_unit step by reason
+                new
+                pushed;
+            falsified = kept_lit steps new grows head (opposite_of lit) turning.falsified;
+            list = turning.list;
+            is = turning.is;
+            room = omega (arith, room);
+            passed = λ p lits one is has.
+                elim (cases_eq p place) [
+                  | inl same ↦
+                      inl
+                      (inl
+                      (subst (IsTrueBefore (lits_of new) (length (lits_of new)))
+                      (one_at clauses place mine lits held (ap (slice_get clauses) (sym same) ∙ is))
+                      (push_true variables clauses watchers steps turning.kept place mine held other other_unit step by
+                      reason new pushed)))
+                  | inr ne ↦
+                      elim (turning.passed p lits one is has) [
+                        | inl done ↦ inl (guarded_on steps new grows (head + 1) lits one le done)
+                        | inr w ↦
+                            inr
+                            (guarded_on steps new grows head lits one (omega (arith, le)) w.0, awaited_less p ne w.1)
+                      ]
+                ];
+          }
 
-  pub covered_at_from : (old mid new : List Step) (place : ℕ) → Grows old mid
-      → IsCoveredAt clauses (lits_of new) (length mid) place → IsCoveredAt clauses (lits_of new) (length old) place
-  covered_at_from old mid new place g was lits e =
-      covered_from (lits_of new) (length mid) (length old) lits g.longer (was lits e)
+-- a look after which the next one follows
+pub visits_on : (variables : ℕ) (clauses : List (List Lit)) (watchers : Watchers) (old new : List Step) (head : ℕ)
+    (lit : Lit) (index : ℕ) → Grows old new → IsTurning variables clauses watchers new head lit index
+    → Visits variables clauses watchers old new head lit index None
+visits_on variables clauses watchers old new head lit index grows turning =
+    record { grows = grows; kept = turning.kept; visited = turning }
 
-  pub visits_none : (steps : List Step) → AreJustified clauses steps → VisitsAll clauses steps steps [] None
-  visits_none steps justified =
-      record {
-        adds = record { grows = grows_same steps; justified = justified };
-        visited = λ place has. absurd (none_member place has);
-      }
+-- at first each clause that the literal watches is still to be looked at
+pub turning_begin : (twice : OppositeTwice) (variables : ℕ) (clauses : List (List Lit)) (watchers : Watchers)
+    (steps : List Step) (head : ℕ) (lit : Lit) (count : ℕ) → IsKept variables clauses watchers steps
+    → slice_get (lits_of steps) head ≡ Some (opposite_of lit)
+    → AreGuarded clauses watchers.pairs (lits_of steps) head (length (lits_of steps))
+    → IsCount watchers.lists.items lit.0 count → IsTurning variables clauses watchers steps head lit count
+turning_begin twice variables clauses watchers steps head lit count kept falsified guarded counted =
+    let counts : count ≡ length counted.list = counted.counts in
+    let awaits : (p : ℕ) → IsListed watchers.lists.items lit.0 p → IsAwaited counted.list count p =
+    λ p listed.
+    let has : Contains counted.list p =
+    subst (λ (l : List ℕ). Contains l p)
+    (one_at watchers.lists.items lit.0 listed.list counted.list listed.is counted.is) listed.has in
+    let i = place_of counted.list p has in
+    let lt : i.0 < length counted.list = slice_get_within counted.list i.0 p i.1 in
+    record { at = i.0; before = omega (arith, lt, counts); is = i.1 } in
+    record {
+      kept = kept;
+      falsified = falsified;
+      list = counted.list;
+      is = counted.is;
+      room = omega (arith, counts);
+      passed = λ p lits pair is has.
+          elim (guarded p lits pair is has) [
+            | inl h ↦ inl (inl h)
+            | inr h ↦
+                let both = kept.stored.listed p pair has h.apart in
+                elim (cases_lit pair.first lit) [
+                  | inl same ↦
+                      inr
+                      (inr h, awaits p (subst (λ (l : Lit). IsListed watchers.lists.items l.0 p) same both.first))
+                  | inr not_first ↦
+                      elim (cases_lit pair.second lit) [
+                        | inl same ↦
+                            inr (
+                              inr h,
+                              awaits p (subst (λ (l : Lit). IsListed watchers.lists.items l.0 p) same both.second),
+                            )
+                        | inr not_second ↦
+                            inl
+                            (inr
+                            (guards_next twice (lits_of steps) head lit falsified lits pair not_first not_second h))
+                      ]
+                ]
+          ];
+    }
 
-  pub visits_more : (old mid new : List Step) (places : List ℕ) (place : ℕ)
-      → VisitsAll clauses old mid places None → Visits clauses mid new place true
-      → VisitsAll clauses old new (places ++ place ∷ []) None
-  visits_more old mid new places place all one =
-      record {
-        adds = adds_more old mid new all.adds one.adds;
-        visited = λ at has.
-            elim (Contains-push_cases places place at has) [
-              | inl before ↦
-                  covered_at_more old mid new at all.adds.grows one.adds.grows (all.visited at before)
-              | inr same ↦
-                  subst (λ (n : ℕ). IsCoveredAt clauses (lits_of new) (length old) n) same
-                  (covered_at_from old mid new place all.adds.grows one.visited)
-            ];
-      }
+-- at last none is
+pub turning_done : (variables : ℕ) (clauses : List (List Lit)) (watchers : Watchers) (steps : List Step) (head : ℕ)
+    (lit : Lit) (index : ℕ) → index ≤ 0 → IsTurning variables clauses watchers steps head lit index
+    → AreGuarded clauses watchers.pairs (lits_of steps) (head + 1) (length (lits_of steps))
+turning_done variables clauses watchers steps head lit index none turning p lits pair is has =
+    elim (turning.passed p lits pair is has) [
+      | inl done ↦ done
+      | inr w ↦ let lt : w.1.at < index = w.1.before in absurd (omega (arith, lt, none))
+    ]
 
-  pub visits_past : (old mid : List Step) (places : List ℕ) (place : ℕ) → VisitsAll clauses old mid places None
-      → length clauses ≤ place → VisitsAll clauses old mid (places ++ place ∷ []) None
-  visits_past old mid places place all past =
-      record {
-        adds = all.adds;
-        visited = λ at has.
-            elim (Contains-push_cases places place at has) [
-              | inl before ↦ all.visited at before
-              | inr same ↦ λ lits e.
-                  let lt : at < length clauses = slice_get_within clauses at lits e in
-                  absurd (omega (arith, lt, same, past))
-            ];
-      }
-
-  pub visits_fails : (old mid new : List Step) (places front : List ℕ) (place : ℕ)
-      → VisitsAll clauses old mid front None → Visits clauses mid new place false
-      → VisitsAll clauses old new places (Some place)
-  visits_fails old mid new places front place all one =
-      record { adds = adds_more old mid new all.adds one.adds; visited = one.visited }
-
-  -- after the clauses of the opposite of the next literal, the one behind it is next
-  pub head_more : (twice : OppositeTwice) (lists : List (List ℕ)) (old new : List Step) (head : ℕ) (lit : Lit)
-      (places : List ℕ) → AreListed clauses lists → slice_get (lits_of old) head ≡ Some lit
-      → slice_get lists (opposite_of lit).0 ≡ Some places → AreCovered clauses (lits_of old) head
-      → VisitsAll clauses old new places None → AreCovered clauses (lits_of new) (head + 1)
-  head_more twice lists old new head lit places listed is list covered all lits has =
-      let within : head < length (lits_of old) = slice_get_within (lits_of old) head lit is in
-      let le : head + 1 ≤ length old = omega (arith, within, lits_length old) in
-      let later = λ (c : IsCovered (lits_of old) (head + 1) lits).
-      covered_kept old new all.adds.grows (head + 1) lits le c in
-      elim (covered lits has) [
-        | inl settled ↦ later (inl settled)
-        | inr w ↦
-            elim (cases_lt head w.place) [
-              | inl lt ↦
-                  later
-                  (inr
-                  (record { lit = w.lit; within = w.within; place = w.place; later = omega (arith, lt); is = w.is }))
-              | inr ge ↦
-                  let at : w.place ≡ head = let l : head ≤ w.place = w.later in omega (arith, l, ge) in
-                  let same : opposite_of w.lit ≡ lit =
-                  one_at (lits_of old) head (opposite_of w.lit) lit
-                  (ap (slice_get (lits_of old)) (sym at) ∙ w.is) is in
-                  let back : w.lit ≡ opposite_of lit = sym (twice w.lit) ∙ ap opposite_of same in
-                  let place = place_of clauses lits has in
-                  let found = listed place.0 lits w.lit place.1 w.within in
-                  let in_list : Contains places place.0 =
-                  subst (λ (l : List ℕ). Contains l place.0)
-                  (one_at lists w.lit.0 found.list places found.is
-                  (ap (λ (l : Lit). slice_get lists l.0) back ∙ list))
-                  found.has in
-                  covered_from (lits_of new) (length old) (head + 1) lits le (all.visited place.0 in_list lits place.1)
-            ]
-      ]
-
-  -- where no literal is left, all clauses are settled
-  pub all_settled : (steps : List Step) (head : ℕ) → length steps ≤ head → AreCovered clauses (lits_of steps) head
-      → AreSettled clauses (lits_of steps) (length (lits_of steps))
-  all_settled steps head past covered lits has =
-      elim (covered lits has) [
-        | inl settled ↦ settled
-        | inr w ↦
-            let lt : w.place < length (lits_of steps) =
-            slice_get_within (lits_of steps) w.place (opposite_of w.lit) w.is in
-            let le : head ≤ w.place = w.later in
-            absurd (omega (arith, past, lt, le, lits_length steps))
-      ]
-
-  -- a look at one more clause
-  pub each_more : (old mid new : List Step) (place : ℕ) → Adds clauses old mid
-      → ((at : ℕ) → at < place → IsCoveredAt clauses (lits_of mid) (length old) at) → Visits clauses mid new place true
-      → Adds clauses old new × ((at : ℕ) → at < place + 1 → IsCoveredAt clauses (lits_of new) (length old) at)
-  each_more old mid new place adds covered one = (
-    adds_more old mid new adds one.adds,
-    λ at lt.
-        elim (cases_lt at place) [
-          | inl before ↦ covered_at_more old mid new at adds.grows one.adds.grows (covered at before)
-          | inr le ↦
-              let same : place ≡ at = omega (arith, lt, le) in
-              subst (λ (n : ℕ). IsCoveredAt clauses (lits_of new) (length old) n) same
-              (covered_at_from old mid new place adds.grows one.visited)
-        ],
-  )
-
-  -- and at all of them
-  pub each_done : (old new : List Step) (place : ℕ) → length clauses ≤ place → Adds clauses old new
-      → ((at : ℕ) → at < place → IsCoveredAt clauses (lits_of new) (length old) at) → Starts clauses old new None
-  each_done old new place past adds covered =
-      record {
-        adds = adds;
-        started = λ lits has.
-            let p = place_of clauses lits has in
-            let lt : p.0 < length clauses = slice_get_within clauses p.0 lits p.1 in
-            covered_from (lits_of new) (length old) 0 lits (omega arith)
-            (covered p.0 (omega (arith, lt, past)) lits p.1);
-      }
-
-  pub each_fails : (old mid new : List Step) (place : ℕ) → Adds clauses old mid → Visits clauses mid new place false
-      → Starts clauses old new (Some place)
-  each_fails old mid new place adds one = record { adds = adds_more old mid new adds one.adds; started = one.visited }
+-- where no literal is left, propagation has ended
+pub ended_at : (clauses : List (List Lit)) (pairs : List Pair) (trail : List Lit) (head : ℕ) → length trail ≤ head
+    → AreGuarded clauses pairs trail head (length trail)
+    → AreGuarded clauses pairs trail (length trail) (length trail)
+ended_at clauses pairs trail head le guarded p lits pair is has =
+    elim (guarded p lits pair is has) [
+      | inl h ↦ inl h
+      | inr h ↦ inr (guards_before trail head (length trail) lits pair le h)
+    ]

@@ -11,14 +11,14 @@ use Rattle.cn_clauses.specs.declared.lit.Lit.{Lit}
 use Rattle.cn_clauses.specs.Literals.{opposite_of}
 use Rattle.cn_clauses.specs.Laws.{OppositeTwice}
 use Rattle.sa_core.specs.declared.step.Step.{Step}
-use Rattle.sa_core.specs.TrailView.{lits_of, Stands, IsOpen, IsPlaced, Grows, code}
-use Rattle.sa_core.specs.SolverView.{IsSettled, ByTrue, ByOpen, AreSettled, IsCovered, AreCovered, IsJustifiedBy}
+use Rattle.sa_core.specs.TrailView.{lits_of, IsOpen, IsPlaced, Grows, code}
+use Rattle.sa_core.specs.SolverView.{IsSettled, ByOpen, IsJustifiedBy}
 use Rattle.sa_core.specs.SolverView.{AreJustified, IsLastDecision}
-use Rattle.sa_core.specs.Analysis.{IsLearned, IsHeight, IsFirstDecision}
+use Rattle.sa_core.specs.Analysis.{IsLearned, IsHeight, IsHighest, NoHighest, IsFirstDecision}
+use Rattle.sa_core.specs.Watching.{Guards}
 use Rattle.jv_list.proofs.ElementLemmas.{count_filled}
-use Rattle.sa_core.proofs.TrailLemmas.{lits_length, lits_push}
-use Rattle.sa_core.proofs.GrowLemmas.{grows_push, grows_cut, kept_lit, was_lit, was_settled, justified_kept}
-use Rattle.sa_core.proofs.GrowLemmas.{cut_justified, settled_or_waiting}
+use Rattle.sa_core.proofs.TrailLemmas.{lits_length}
+use Rattle.sa_core.proofs.GrowLemmas.{grows_push, grows_cut, kept_lit, was_lit, justified_kept, cut_justified}
 use Rattle.sa_core.proofs.CodeLemmas.{code_turned}
 
 -- a trail with an open literal has room
@@ -49,12 +49,6 @@ justified_push clauses steps new step pushed justified by at s e =
           (subst (λ (n : ℕ). IsJustifiedBy clauses (lits_of new) n step.lit step.reason) (sym last.0)
           (justified_kept steps new grows clauses (length steps) step.lit step.reason (omega arith) by))
     ]
-
--- clauses that were settled before a step was pushed
-pub covered_push : (clauses : List (List Lit)) (steps new : List Step) (step : Step) → new ≡ steps ++ step ∷ []
-    → AreSettled clauses (lits_of steps) (length (lits_of steps)) → AreCovered clauses (lits_of new) (length steps)
-covered_push clauses steps new step pushed settled lits has =
-    settled_or_waiting steps new (grows_push steps new step pushed) lits (settled lits has)
 
 -- a literal has one place
 pub same_place : (steps : List Step) (places : List (Option ℕ)) (lit : Lit) (i j : ℕ) → IsPlaced steps places
@@ -168,6 +162,54 @@ module _ (twice : OppositeTwice) (clauses : List (List Lit)) (steps : List Step)
               ]
         ]
 
+    -- and its first literal and the one that became false last guard it
+    pub learned_guards : (second : Lit)
+        → NoHighest (lits_of steps) lower limit ⊎ IsHighest (lits_of steps) lower limit second → (place : ℕ)
+        → (step : Step) → slice_get cut place ≡ Some step → step.reason ≡ None
+        → Guards (lits_of cut) place (lit ∷ lower) (record { first = lit; second = second })
+    learned_guards second chosen place step e none =
+        let lt : place < length cut = slice_get_within cut place step e in
+        let at : slice_get steps place ≡ Some step = cut_grows.kept place step e in
+        elim (cases_lt place limit) [
+          | inr le ↦ absurd (first.first place step le (omega (arith, lt, length_cut)) at none)
+          | inl below ↦
+              elim chosen [
+                | inl missing ↦
+                    elim high.last [
+                      | inl zero_high ↦ absurd (omega (arith, below, zero_high))
+                      | inr top ↦
+                          absurd
+                          (missing top.0 (record { within = top.2; place = top.1; at = top.3; is = top.4 }))
+                    ]
+                | inr found ↦
+                    let high_at = found.at in
+                    record {
+                      first = first_member lit lower;
+                      second = Contains-append_right (lit ∷ []) lower second found.within;
+                      apart = λ same.
+                          let one : learned.place ≡ found.place =
+                          same_place steps places (opposite_of second) learned.place found.place was
+                          (learned.is ∙ ap (λ (l : Lit). Some (opposite_of l)) same) found.is in
+                          let later : mark ≤ learned.place = learned.later in
+                          let low = limit_low in
+                          omega (arith, one, later, low, high_at);
+                      first_left = λ s.
+                          open_cut.not_false
+                          (record {
+                            place = s.place;
+                            before = slice_get_within (lits_of cut) s.place (opposite_of lit) s.is;
+                            is = s.is;
+                          });
+                      second_left = λ s.
+                          let one : s.place ≡ found.place =
+                          same_place steps places (opposite_of second) s.place found.place was
+                          (kept_lit cut steps cut_grows s.place (opposite_of second) s.is) found.is in
+                          let before : s.place < place = s.before in
+                          omega (arith, one, before, below, high_at);
+                    }
+              ]
+        ]
+
     module _ (new : List (List Lit)) (more : new ≡ clauses ++ (lit ∷ lower) ∷ []) where
       old_clause : (place : ℕ) (lits : List Lit) → slice_get clauses place ≡ Some lits → slice_get new place ≡ Some lits
       old_clause place lits e =
@@ -228,38 +270,6 @@ module _ (twice : OppositeTwice) (clauses : List (List Lit)) (steps : List Step)
         -- and so is the literal that is forced
         pub learn_justified : AreJustified new pushed
         learn_justified = justified_push new cut pushed step is_pushed left_justified (forced_by step.reason some)
-
-        settled_cut : (lits : List Lit) → Contains clauses lits → IsSettled (lits_of cut) (length (lits_of cut)) lits
-        settled_cut lits has =
-            let at_from : AreSettled clauses (lits_of steps) from =
-            subst (IsJustifiedBy clauses (lits_of steps) from first.step.lit) first.decided
-            (justified from first.step first.is) in
-            subst (λ (n : ℕ). IsSettled (lits_of cut) n lits) (sym (lits_length cut ∙ length_cut))
-            (was_settled cut steps cut_grows from lits (let e = length_cut in omega (arith, e)) (at_from lits has))
-
-        lit_stands : Stands (lits_of pushed) (length (lits_of pushed)) lit
-        lit_stands =
-            let at_end : slice_get (lits_of pushed) (length cut) ≡ Some lit =
-            ap (λ (l : List Step). slice_get (lits_of l) (length cut)) is_pushed
-            ∙ ap (λ (l : List Lit). slice_get l (length cut)) (lits_push cut step)
-            ∙ slice_get-push_last (lits_of cut) step.lit (length cut) (sym (lits_length cut))
-            ∙ ap (λ (l : Lit). Some l) by in
-            record {
-              place = length cut;
-              before = slice_get_within (lits_of pushed) (length cut) lit at_end;
-              is = at_end;
-            }
-
-        pub learn_covered : AreCovered new (lits_of pushed) from
-        learn_covered lits has =
-            elim (in_new lits has) [
-              | inl old ↦
-                  subst (λ (n : ℕ). IsCovered (lits_of pushed) n lits) length_cut
-                  (settled_or_waiting cut pushed (grows_push cut pushed step is_pushed) lits (settled_cut lits old))
-              | inr same ↦
-                  subst (IsCovered (lits_of pushed) from) same
-                  (inl (ByTrue lit (first_member lit lower) lit_stands))
-            ]
 
         pub learn_rises : (size : ℕ) → length steps ≤ size → code size steps < code size pushed
         learn_rises size le =

@@ -1,16 +1,17 @@
--- A store with one clause more, and the lists of the places of literals.
-use Rattle.std.proofs.Common.{◌≡◌, ℕ, zero, suc, ◌+◌, ◌-◌, ◌≤◌, List, [], ◌∷◌, ◌++◌, length, take, drop, Contains}
+-- A store with one clause more.
+use Rattle.std.proofs.Common.{◌≡◌, ℕ, zero, suc, ◌+◌, ◌-◌, ◌≤◌, List, [], ◌∷◌, ◌++◌, length, take, drop, Contains, Some}
 use Rattle.std.proofs.Common.{slice_get, slice_range, refl, sym, ap, ap₂, ◌∙◌, subst, inl, inr, arith, length-append}
 use Rattle.std.proofs.Common.{length-drop, drop_at, take_all}
 use Rattle.std.proofs.lemmas.List.{map-append, drop-append-le, take-append-le}
 use Rattle.std.proofs.lemmas.List.Elements.{Contains-push_cases}
-use Rattle.jv_list.proofs.MemberLemmas.{none_member}
 use Rattle.jv_list.proofs.PlaceLemmas.{slice_get-push_cases}
 use Rattle.cn_clauses.specs.declared.lit.Lit.{Lit}
 use Rattle.sa_core.specs.declared.span.Span.{Span}
+use Rattle.sa_core.specs.declared.pair.Pair.{Pair}
+use Rattle.sa_core.specs.declared.watches.Watchers.{Watchers}
 use Rattle.sa_core.specs.StoreView.{spanned, AreSpans}
-use Rattle.sa_core.specs.Occurs.{IsListed, AreListed, Lists, ListsAll}
 use Rattle.sa_core.specs.SolverView.{IsWithin, AreWithin}
+use Rattle.sa_core.specs.Watching.{IsStored}
 
 range_more : (lits more : List Lit) (a b : ℕ) → a ≤ b → b ≤ length lits
     → slice_range (lits ++ more) a b ≡ slice_range lits a b
@@ -42,46 +43,41 @@ stored lits more new spans new_spans span are e f start end =
     ∙ ap₂ (λ (x : List (List Lit)) (y : List Lit). x ++ y ∷ []) (spanned_more lits more spans are)
     (range_last lits more span.start span.end start (end ∙ ap length e))
 
--- places in the lists of no literal, and of one more
-pub lists_none : (lists : List (List ℕ)) (place : ℕ) → ListsAll lists lists [] place
-lists_none lists place =
-    record {
-      keeps = record { same = refl; kept = λ number at h. h };
-      has = λ lit h. absurd (none_member lit h);
-    }
-
-pub lists_more : (old mid new : List (List ℕ)) (lits : List Lit) (lit : Lit) (place : ℕ)
-    → ListsAll old mid lits place → Lists mid new lit.0 place → ListsAll old new (lits ++ lit ∷ []) place
-lists_more old mid new lits lit place all one =
-    record {
-      keeps =
-          record {
-            same = one.keeps.same ∙ all.keeps.same;
-            kept = λ number at h. one.keeps.kept number at (all.keeps.kept number at h);
-          };
-      has = λ other h.
-          elim (Contains-push_cases lits lit other h) [
-            | inl before ↦ one.keeps.kept other.0 place (all.has other before)
-            | inr same ↦ subst (λ (l : Lit). IsListed new l.0 place) same one.has
-          ];
-    }
-
--- one more clause in the store and in the lists
-pub listed_more : (clauses new : List (List Lit)) (old lists : List (List ℕ)) (lits : List Lit) (place : ℕ)
-    → new ≡ clauses ++ lits ∷ [] → place ≡ length clauses → ListsAll old lists lits place → AreListed clauses old
-    → AreListed new lists
-listed_more clauses new old lists lits place e end all was at others lit is has =
-    elim (slice_get-push_cases clauses lits others at (ap (λ (l : List (List Lit)). slice_get l at) (sym e) ∙ is)) [
-      | inl before ↦ all.keeps.kept lit.0 at (was at others lit before has)
-      | inr last ↦
-          subst (IsListed lists lit.0) (end ∙ sym last.0)
-          (all.has lit (subst (λ (l : List Lit). Contains l lit) (sym last.1) has))
-    ]
-
 pub within_more : (n : ℕ) (clauses new : List (List Lit)) (lits : List Lit) → new ≡ clauses ++ lits ∷ []
     → AreWithin n clauses → IsWithin n lits → AreWithin n new
 within_more n clauses new lits e was within others has lit has_lit =
     elim (Contains-push_cases clauses lits others (subst (λ (l : List (List Lit)). Contains l others) e has)) [
       | inl before ↦ was others before lit has_lit
       | inr same ↦ within lit (subst (λ (l : List Lit). Contains l lit) (sym same) has_lit)
+    ]
+
+-- a clause without watches is stored
+pub stored_more : (variables : ℕ) (clauses new : List (List Lit)) (watchers : Watchers) (pairs : List Pair) (pair : Pair)
+    → pairs ≡ watchers.pairs ++ pair ∷ [] → pair.first ≡ pair.second → (lits : List Lit) → new ≡ clauses ++ lits ∷ []
+    → IsWithin variables lits → IsStored variables clauses watchers
+    → IsStored variables new (record { pairs = pairs; lists = watchers.lists })
+stored_more variables clauses new watchers pairs pair pushed same lits e within stored =
+    let count : length watchers.pairs ≡ length clauses = stored.count in
+    let one : length pairs ≡ length watchers.pairs + 1 =
+    ap length pushed ∙ length-append watchers.pairs (pair ∷ []) in
+    let two : length new ≡ length clauses + 1 = ap length e ∙ length-append clauses (lits ∷ []) in
+    record {
+      size = stored.size;
+      count = omega (arith, one, two, count);
+      listed = λ place other is apart.
+          elim (slice_get-push_cases watchers.pairs pair other place
+          (ap (λ (l : List Pair). slice_get l place) (sym pushed) ∙ is)) [
+            | inl before ↦ stored.listed place other before apart
+            | inr last ↦ absurd (apart (subst (λ (p : Pair). p.first ≡ p.second) last.1 same))
+          ];
+      within = within_more variables clauses new lits e stored.within within;
+    }
+
+-- and the pairs of the others stay
+pub pairs_more : (pairs more : List Pair) (pair : Pair) → more ≡ pairs ++ pair ∷ [] → (place : ℕ) (one : Pair)
+    → (place ≡ length pairs → ⊥) → slice_get more place ≡ Some one → slice_get pairs place ≡ Some one
+pairs_more pairs more pair pushed place one ne is =
+    elim (slice_get-push_cases pairs pair one place (ap (λ (l : List Pair). slice_get l place) (sym pushed) ∙ is)) [
+      | inl before ↦ before
+      | inr last ↦ absurd (ne last.0)
     ]

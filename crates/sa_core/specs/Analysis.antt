@@ -1,9 +1,11 @@
 -- What analysis finds: which places of the trail were seen, and the clause that is learned.
-use Rattle.std.specs.Prelude.{◌≡◌, ◌⊎◌, ◌+◌, ◌<◌, ◌≤◌, ℕ, Bool, true, List, ◌∷◌, length, slice_get, Some, None, Contains}
+use Rattle.std.specs.Prelude.{◌≡◌, ◌⊎◌, ◌+◌, ◌<◌, ◌≤◌, ℕ, Bool, true, List, ◌∷◌, length, slice_get, slice_range, slice_index_or}
+use Rattle.std.specs.Prelude.{Some, None, Contains}
 use Rattle.cn_clauses.specs.declared.lit.Lit.{Lit}
 use Rattle.cn_clauses.specs.Literals.{opposite_of}
 use Rattle.cn_clauses.specs.Propagation.{IsForced, IsConflict, Rup}
 use Rattle.sa_core.specs.declared.step.Step.{Step}
+use Rattle.sa_core.specs.declared.pair.Pair.{Pair}
 use Rattle.sa_core.specs.TrailView.{Stands}
 use Rattle.sa_core.specs.SolverView.{IsImplied}
 
@@ -51,6 +53,24 @@ pub record IsLearned (clauses : List (List Lit)) (trail : List Lit) (mark : ℕ)
 pub record IsHeight (trail : List Lit) (lower : List Lit) (limit : ℕ) : Type 0 where
   pub opposed : (lit : Lit) → Contains lower lit → Stands trail limit (opposite_of lit)
   pub last : (limit ≡ 0) ⊎ ((lit : Lit) × (place : ℕ) × Contains lower lit × (limit ≡ place + 1) × (slice_get trail place ≡ Some (opposite_of lit)))
+
+-- a literal of the list became false just before a limit
+pub record IsHighest (trail : List Lit) (lits : List Lit) (limit : ℕ) (lit : Lit) : Type 0 where
+  pub within : Contains lits lit
+  pub place : ℕ
+  pub at : limit ≡ place + 1
+  pub is : slice_get trail place ≡ Some (opposite_of lit)
+
+-- none did
+abbrev pub NoHighest : List Lit → List Lit → ℕ → Type 0
+NoHighest trail lits limit = (lit : Lit) → IsHighest trail lits limit lit → ⊥
+
+-- the first literal of a clause, and one of the others that became false just before a limit, if there is one
+pub record IsPairOf (trail : List Lit) (lits : List Lit) (limit : ℕ) (pair : Pair) : Type 0 where
+  pub first : pair.first ≡ slice_index_or lits 0 (record { 0 = 0 })
+  pub second : Contains lits pair.second
+  pub highest : NoHighest trail (slice_range lits 1 (length lits)) limit
+      ⊎ IsHighest trail (slice_range lits 1 (length lits)) limit pair.second
 
 -- the first decision from a limit on
 pub record IsFirstDecision (steps : List Step) (limit : ℕ) (place : ℕ) : Type 0 where

@@ -2,10 +2,10 @@ pub mod Analysis
 pub mod Answers
 pub mod Calls
 pub mod LogView
-pub mod Occurs
 pub mod SearchView
 pub mod SolverView
 pub mod Solvers
 pub mod SpentLog
 pub mod StoreView
 pub mod TrailView
+pub mod Watching

@@ -1,9 +1,9 @@
--- The invariant of a search, by part: clauses that are settled, steps that are justified, and what propagation owes.
-use Rattle.std.specs.Prelude.{◌≡◌, ◌⊎◌, ◌<◌, ◌≤◌, ℕ, List, length, slice_get, Option, Some, None, Contains}
+-- The invariant of a search, by part: clauses that are settled, and steps that are justified.
+use Rattle.std.specs.Prelude.{◌≡◌, ◌<◌, ℕ, List, length, slice_get, Option, Some, None, Contains}
 use Rattle.cn_clauses.specs.declared.lit.Lit.{Lit}
 use Rattle.cn_clauses.specs.Literals.{opposite_of, variable_of}
 use Rattle.sa_core.specs.declared.step.Step.{Step}
-use Rattle.sa_core.specs.TrailView.{lits_of, Stands, IsOpen, Grows}
+use Rattle.sa_core.specs.TrailView.{lits_of, Stands, IsOpen}
 
 -- each literal of the clause stands opposed before a place of the trail
 abbrev pub IsFalse : List Lit → ℕ → List Lit → Type 0
@@ -18,21 +18,6 @@ pub data IsSettled (trail : List Lit) (limit : ℕ) (lits : List Lit) : Type 0 w
 -- so is each clause
 abbrev pub AreSettled : List (List Lit) → List Lit → ℕ → Type 0
 AreSettled clauses trail limit = (lits : List Lit) → Contains clauses lits → IsSettled trail limit lits
-
--- the clause has a literal that got its opposite at a place or later
-pub record IsWaiting (trail : List Lit) (from : ℕ) (lits : List Lit) : Type 0 where
-  pub lit : Lit
-  pub within : Contains lits lit
-  pub place : ℕ
-  pub later : from ≤ place
-  pub is : slice_get trail place ≡ Some (opposite_of lit)
-
--- a clause that is not settled is still to be looked at
-abbrev pub IsCovered : List Lit → ℕ → List Lit → Type 0
-IsCovered trail from lits = IsSettled trail (length trail) lits ⊎ IsWaiting trail from lits
-
-abbrev pub AreCovered : List (List Lit) → List Lit → ℕ → Type 0
-AreCovered clauses trail from = (lits : List Lit) → Contains clauses lits → IsCovered trail from lits
 
 -- the other literals of the clause are false before a place
 pub record IsUnit (trail : List Lit) (limit : ℕ) (lits : List Lit) (lit : Lit) : Type 0 where
@@ -73,11 +58,6 @@ pub record IsFalseAt (clauses : List (List Lit)) (trail : List Lit) (place : ℕ
 abbrev pub IsFound : List (List Lit) → List Lit → Option ℕ → Type 0
 IsFound clauses trail None = AreSettled clauses trail (length trail)
 IsFound clauses trail (Some place) = IsFalseAt clauses trail place
-
--- steps were added, each with its reason
-pub record Adds (clauses : List (List Lit)) (old new : List Step) : Type 0 where
-  pub grows : Grows old new
-  pub justified : AreJustified clauses new
 
 -- a decision with none after it
 pub record IsLastDecision (steps : List Step) (place : ℕ) : Type 0 where

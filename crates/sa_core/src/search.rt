@@ -1,4 +1,4 @@
-// A search: its clauses, where each literal occurs, and its trail.
+// A search: its clauses, what watches them, and its trail.
 ghost use Rattle.std.specs.Prelude.{◌≡◌, ◌+◌, ◌*◌, ◌∷◌, ◌++◌, [], ◌<◌, length, IfOk, OnOk};
 ghost use Rattle.cn_clauses.specs.Literals.{variable_of};
 ghost use Rattle.cn_clauses.specs.Formulas.{value_at};
@@ -7,17 +7,20 @@ ghost use Rattle.sa_core.specs.SpentLog.{all_clauses};
 ghost use Rattle.sa_core.specs.TrailView.{lits_of, IsOpen, AllGiven};
 ghost use Rattle.sa_core.specs.SolverView.{IsWithin, AreWithin, AreSettled, IsFound, IsLastDecision};
 ghost use Rattle.sa_core.specs.Analysis.{IsLearnedClause};
-ghost use Rattle.sa_core.specs.SearchView.{clauses_of, trail_of, IsStored, IsReady, Stores, IsLoaded, GoesOn};
+ghost use Rattle.sa_core.specs.Watching.{IsEnded};
+ghost use Rattle.sa_core.specs.SearchView.{clauses_of, trail_of, IsReady, Stores, IsLoaded, GoesOn};
 
-use crate::backtrack::{first_decision, height};
+use crate::backtrack::{first_decision, height, pair_of};
 use crate::decide::last_decision;
 use crate::log::LogEntry;
-use crate::occurrences::Occurrences;
 use crate::order::Order;
-use crate::propagate::{propagate, visit_each};
+use crate::pair::Pair;
+use crate::propagate::propagate;
+use crate::start::start;
 use crate::step::Step;
 use crate::store::Store;
 use crate::trail::Trail;
+use crate::watches::Watchers;
 use cn_clauses::{Assignment, Lit, literal_laws};
 use jv_list::{List, Mem};
 use std::alloc::{AllocError, Global};
@@ -25,7 +28,7 @@ use std::alloc::{AllocError, Global};
 #[derive(Debug, Drop)]
 pub struct Search {
     pub store: Store,
-    pub occurrences: Occurrences,
+    pub watchers: Watchers,
     pub trail: Trail,
 }
 
@@ -38,7 +41,7 @@ impl Search {
         let size = variables.checked_mul(2).ok_or(AllocError)?;
         let mut search = Search {
             store: Store::new(alloc),
-            occurrences: Occurrences::new(alloc, size)?,
+            watchers: Watchers::new(alloc, size)?,
             trail: Trail::new(alloc, variables)?,
         };
         for entry in entries {
@@ -47,14 +50,16 @@ impl Search {
         Ok(search)
     }
 
-    // Puts a clause at the end of the store.
+    // Puts a clause at the end of the store. No literal watches it.
     fn store_clause(&mut self, lits: &[Lit]) -> Mem<()>
-        requires size { length self.old.occurrences.lists.items ≡ 2 * self.old.trail.variables }
-        requires within { IsWithin self.old.trail.variables lits.now }
+        requires { IsWithin self.old.trail.variables lits.now }
         ensures { OnOk result (Stores self.old self.new lits.now) }
     {
-        let place = self.store.length();
-        self.occurrences.add_all(lits, place)?;
+        let first = Lit(0);
+        self.watchers.pairs.add(Pair {
+            first,
+            second: first,
+        })?;
         self.store.push(lits)
     }
 
@@ -63,19 +68,21 @@ impl Search {
         requires { IsReady self.old }
         ensures ready { IfOk result (λ found. IsReady self.new) }
         ensures finds { IfOk result (λ found. IsFound (clauses_of self.new) (trail_of self.new) found) }
+        ensures ended { IfOk result (λ found. IsEnded (clauses_of self.new) self.new.watchers.pairs (trail_of self.new) found) }
         ensures keeps { (self.new.store ≡ self.old.store) × (self.new.trail.variables ≡ self.old.trail.variables) }
     {
-        let conflict = visit_each(&self.store, &mut self.trail)?;
+        let conflict = start(&self.store, &mut self.watchers, &mut self.trail)?;
         if conflict.is_some() {
             return Ok(conflict);
         }
-        propagate(&self.store, &self.occurrences, &mut self.trail, 0)
+        propagate(&self.store, &mut self.watchers, &mut self.trail, 0)
     }
 
     /// Makes an open literal true by decision, and propagates.
     pub fn decide(&mut self, lit: Lit) -> Mem<Option<usize>>
         requires ready { IsReady self.old }
         requires settled { IsFound (clauses_of self.old) (trail_of self.old) None }
+        requires ended { IsEnded (clauses_of self.old) self.old.watchers.pairs (trail_of self.old) None }
         requires within { variable_of lit < self.old.trail.variables }
         requires open { IsOpen (trail_of self.old) (length (trail_of self.old)) lit }
         ensures goes { IfOk result (λ found. GoesOn self.old self.new found) }
@@ -83,7 +90,7 @@ impl Search {
     {
         let from = self.trail.steps.length();
         self.trail.push(Step { lit, reason: None })?;
-        propagate(&self.store, &self.occurrences, &mut self.trail, from)
+        propagate(&self.store, &mut self.watchers, &mut self.trail, from)
     }
 
     /// Takes a learned clause in: the trail is cut to where the clause forces its first literal, which is made true.
@@ -98,22 +105,26 @@ impl Search {
         let limit = height(&self.trail, &lits[1..]);
         let from = first_decision(&self.trail, limit, mark);
         let place = self.store.length();
+        let pair = pair_of(&self.trail, lits, limit);
         order.reopen(&self.trail, from)?;
         self.trail.cut(from);
         self.store_clause(lits)?;
+        self.watchers.watch(place, pair)?;
         self.trail.push(Step {
             lit: lits[0],
             reason: Some(place),
         })?;
-        propagate(&self.store, &self.occurrences, &mut self.trail, from)
+        propagate(&self.store, &mut self.watchers, &mut self.trail, from)
     }
 
     /// Takes all decisions back.
     pub fn restart(&mut self, order: &mut Order) -> Mem<()>
         requires ready { IsReady self.old }
         requires settled { IsFound (clauses_of self.old) (trail_of self.old) None }
+        requires ended { IsEnded (clauses_of self.old) self.old.watchers.pairs (trail_of self.old) None }
         ensures ready { IsReady self.new }
         ensures settled { IsFound (clauses_of self.new) (trail_of self.new) None }
+        ensures ended { IsEnded (clauses_of self.new) self.new.watchers.pairs (trail_of self.new) None }
         ensures keeps { (self.new.store ≡ self.old.store) × (self.new.trail.variables ≡ self.old.trail.variables) }
     {
         let Some(mark) = last_decision(&self.trail) else {

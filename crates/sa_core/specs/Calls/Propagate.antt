@@ -1,62 +1,116 @@
 -- What the functions of propagation ensure.
-use Rattle.std.specs.Prelude.{◌≡◌, ℕ, Bool, true, false, List, length, slice_get, Option, Some, None, Contains}
+use Rattle.std.specs.Prelude.{◌≡◌, ◌⊎◌, ◌+◌, ◌<◌, ◌≤◌, ℕ, List, length, slice_get, Option, Some, None, Contains}
 use Rattle.cn_clauses.specs.declared.lit.Lit.{Lit}
+use Rattle.cn_clauses.specs.Literals.{opposite_of}
 use Rattle.sa_core.specs.declared.step.Step.{Step}
+use Rattle.sa_core.specs.declared.pair.Pair.{Pair}
+use Rattle.sa_core.specs.declared.watches.Watchers.{Watchers}
 use Rattle.sa_core.specs.declared.propagate.Asks.{Asks}
-use Rattle.sa_core.specs.declared.propagate.Asks.TheVariants.{Nothing, Literal, Conflict}
-use Rattle.sa_core.specs.TrailView.{lits_of, IsOpen}
-use Rattle.sa_core.specs.SolverView.{IsFalse, IsSettled, IsUnit, IsCovered, AreCovered, Adds, IsFalseAt, IsFound}
+use Rattle.sa_core.specs.declared.propagate.Asks.TheVariants.{Nothing, Turn, Literal, Conflict}
+use Rattle.sa_core.specs.TrailView.{lits_of, Stands, IsOpen, Grows}
+use Rattle.sa_core.specs.SolverView.{IsFalse, IsFalseAt, IsFound}
+use Rattle.sa_core.specs.Watching.{IsGuarded, AreGuarded, IsKept, IsEnded}
 
--- a clause with one literal that is open while the others are false
-pub record AsksFor (trail lits : List Lit) (lit : Lit) : Type 0 where
-  pub unit : IsUnit trail (length trail) lits lit
-  pub unset : IsOpen trail (length trail) lit
+-- the literal does not watch the pair's clause
+abbrev pub IsStale : Pair → Lit → Type 0
+IsStale pair lit = (pair.first ≡ pair.second → ⊥) → (pair.first ≡ lit → ⊥) × (pair.second ≡ lit → ⊥)
 
--- what a clause asks of the trail
-abbrev pub IsAsked : List Lit → List Lit → Asks → Type 0
-IsAsked trail lits Nothing = IsSettled trail (length trail) lits
-IsAsked trail lits (Literal lit) = AsksFor trail lits lit
-IsAsked trail lits Conflict = IsFalse trail (length trail) lits
+-- one literal of the pair, and the other
+pub record IsOther (pair : Pair) (lit other : Lit) : Type 0 where
+  pub apart : lit ≡ other → ⊥
+  pub either : ((pair.first ≡ lit) × (pair.second ≡ other)) ⊎ ((pair.second ≡ lit) × (pair.first ≡ other))
 
--- what a front of a clause showed: at most one literal that is open, while the others are false
-abbrev pub IsScanned : List Lit → List Lit → Option Lit → Type 0
-IsScanned trail lits None = IsFalse trail (length trail) lits
-IsScanned trail lits (Some lit) = AsksFor trail lits lit
+-- a literal of the clause that is not the other one, and not false
+pub record IsSpareFor (trail lits : List Lit) (other lit : Lit) : Type 0 where
+  pub within : Contains lits lit
+  pub apart : lit ≡ other → ⊥
+  pub left : Stands trail (length trail) (opposite_of lit) → ⊥
 
--- the clause at a place is covered from another place of the trail on
-abbrev pub IsCoveredAt : List (List Lit) → List Lit → ℕ → ℕ → Type 0
-IsCoveredAt clauses trail from place = (lits : List Lit) → slice_get clauses place ≡ Some lits → IsCovered trail from lits
+-- the literals of the clause are false but for one
+abbrev pub AreFalseBut : List Lit → List Lit → Lit → Type 0
+AreFalseBut trail lits other =
+    (lit : Lit) → Contains lits lit → (lit ≡ other → ⊥) → Stands trail (length trail) (opposite_of lit)
 
--- what a look at the clause at a place does: it holds, or it is false
-abbrev pub IsVisited : List (List Lit) → List Step → List Step → ℕ → Bool → Type 0
-IsVisited clauses old new place true = IsCoveredAt clauses (lits_of new) (length old) place
-IsVisited clauses old new place false = IsFalseAt clauses (lits_of new) place
+-- the other literal of a pair is true
+pub record HasTrueOther (trail : List Lit) (pair : Pair) (lit : Lit) : Type 0 where
+  pub other : Lit
+  pub is : IsOther pair lit other
+  pub stands : Stands trail (length trail) other
 
--- steps were added, and the clause was looked at
-pub record Visits (clauses : List (List Lit)) (old new : List Step) (place : ℕ) (holds : Bool) : Type 0 where
-  pub adds : Adds clauses old new
-  pub visited : IsVisited clauses old new place holds
+-- a literal that is not false may take the place of one of a pair
+pub record TurnsTo (trail lits : List Lit) (pair : Pair) (lit : Lit) (new : Pair) : Type 0 where
+  pub is : IsOther pair lit new.second
+  pub spare : IsSpareFor trail lits new.second new.first
 
--- what a look at several clauses finds: each is covered from the old end on, or one is false
-abbrev pub AreVisited : List (List Lit) → List Step → List Step → List ℕ → Option ℕ → Type 0
-AreVisited clauses old new places None =
-    (place : ℕ) → Contains places place → IsCoveredAt clauses (lits_of new) (length old) place
-AreVisited clauses old new places (Some place) = IsFalseAt clauses (lits_of new) place
+-- the other literal of a pair is open, and the rest of the clause is false
+pub record AsksForOther (trail lits : List Lit) (pair : Pair) (lit other : Lit) : Type 0 where
+  pub is : IsOther pair lit other
+  pub others : AreFalseBut trail lits other
+  pub unset : IsOpen trail (length trail) other
 
-pub record VisitsAll (clauses : List (List Lit)) (old new : List Step) (places : List ℕ) (found : Option ℕ) : Type 0 where
-  pub adds : Adds clauses old new
-  pub visited : AreVisited clauses old new places found
+-- what a clause asks that a literal watched
+abbrev pub IsAskedOf : List Lit → List Lit → Pair → Lit → Asks → Type 0
+IsAskedOf trail lits pair lit Nothing = IsStale pair lit ⊎ HasTrueOther trail pair lit
+IsAskedOf trail lits pair lit (Turn new) = TurnsTo trail lits pair lit new
+IsAskedOf trail lits pair lit (Literal other) = AsksForOther trail lits pair lit other
+IsAskedOf trail lits pair lit Conflict = IsFalse trail (length trail) lits
 
--- what a look at each clause finds: each is covered, or one is false
-abbrev pub IsStarted : List (List Lit) → List Lit → Option ℕ → Type 0
-IsStarted clauses trail None = AreCovered clauses trail 0
-IsStarted clauses trail (Some place) = IsFalseAt clauses trail place
+-- and the clause at a place
+abbrev pub IsAsked : List (List Lit) → List Lit → ℕ → Pair → Lit → Asks → Type 0
+IsAsked clauses trail place pair lit asks =
+    (lits : List Lit) → slice_get clauses place ≡ Some lits → IsAskedOf trail lits pair lit asks
 
-pub record Starts (clauses : List (List Lit)) (old new : List Step) (found : Option ℕ) : Type 0 where
-  pub adds : Adds clauses old new
-  pub started : IsStarted clauses (lits_of new) found
+-- the place stands in the list before an index
+pub record IsAwaited (list : List ℕ) (index place : ℕ) : Type 0 where
+  pub at : ℕ
+  pub before : at < index
+  pub is : slice_get list at ≡ Some place
+
+-- each clause is guarded from behind a place of the trail on, or from there on and is still to be looked at
+abbrev pub ArePassed : List (List Lit) → List Pair → List Lit → ℕ → List ℕ → ℕ → Type 0
+ArePassed clauses pairs trail head list index =
+    (place : ℕ) (lits : List Lit) (pair : Pair) → slice_get clauses place ≡ Some lits
+    → slice_get pairs place ≡ Some pair
+    → IsGuarded trail (head + 1) (length trail) lits pair
+    ⊎ (IsGuarded trail head (length trail) lits pair × IsAwaited list index place)
+
+-- the clauses that a literal watches, which is false since a place, were looked at but for the first ones of its list
+pub record IsTurning (variables : ℕ) (clauses : List (List Lit)) (watchers : Watchers) (steps : List Step) (head : ℕ)
+    (lit : Lit) (index : ℕ) : Type 0 where
+  pub kept : IsKept variables clauses watchers steps
+  pub falsified : slice_get (lits_of steps) head ≡ Some (opposite_of lit)
+  pub list : List ℕ
+  pub is : slice_get watchers.lists.items lit.0 ≡ Some list
+  pub room : index ≤ length list
+  pub passed : ArePassed clauses watchers.pairs (lits_of steps) head list index
+
+-- a look at one more of them, or it is false
+abbrev pub IsVisited : ℕ → List (List Lit) → Watchers → List Step → ℕ → Lit → ℕ → Option ℕ → Type 0
+IsVisited variables clauses watchers steps head lit index None =
+    IsTurning variables clauses watchers steps head lit index
+IsVisited variables clauses watchers steps head lit index (Some place) = IsFalseAt clauses (lits_of steps) place
+
+pub record Visits (variables : ℕ) (clauses : List (List Lit)) (watchers : Watchers) (old new : List Step) (head : ℕ)
+    (lit : Lit) (index : ℕ) (found : Option ℕ) : Type 0 where
+  pub grows : Grows old new
+  pub kept : IsKept variables clauses watchers new
+  pub visited : IsVisited variables clauses watchers new head lit index found
+
+-- all of them were looked at, or one is false
+abbrev pub AreVisited : List (List Lit) → Watchers → List Lit → ℕ → Option ℕ → Type 0
+AreVisited clauses watchers trail head None = AreGuarded clauses watchers.pairs trail (head + 1) (length trail)
+AreVisited clauses watchers trail head (Some place) = IsFalseAt clauses trail place
+
+pub record VisitsAll (variables : ℕ) (clauses : List (List Lit)) (watchers : Watchers) (old new : List Step) (head : ℕ)
+    (found : Option ℕ) : Type 0 where
+  pub grows : Grows old new
+  pub kept : IsKept variables clauses watchers new
+  pub visited : AreVisited clauses watchers (lits_of new) head found
 
 -- propagation added steps until all clauses are settled, or one is false
-pub record Propagates (clauses : List (List Lit)) (old new : List Step) (found : Option ℕ) : Type 0 where
-  pub adds : Adds clauses old new
+pub record Propagates (variables : ℕ) (clauses : List (List Lit)) (watchers : Watchers) (old new : List Step)
+    (found : Option ℕ) : Type 0 where
+  pub grows : Grows old new
+  pub kept : IsKept variables clauses watchers new
   pub finds : IsFound clauses (lits_of new) found
+  pub ended : IsEnded clauses watchers.pairs (lits_of new) found

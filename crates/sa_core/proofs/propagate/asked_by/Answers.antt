@@ -1,70 +1,38 @@
-use Rattle.std.proofs.Common.{◌≡◌, ◌<◌, ◌+◌, ◌++◌, ◌∷◌, [], ℕ, Bool, List, Option, Some, length, take, get_or, sym}
-use Rattle.std.proofs.Common.{subst, take_all}
-use Rattle.std.proofs.lemmas.List.{take_more}
+use Rattle.std.proofs.Common.{Bool, List, Some, Contains, sym, subst}
 use Rattle.cn_clauses.specs.declared.lit.Lit.{Lit}
+use Rattle.sa_core.specs.declared.propagate.Asks.{Asks}
 use Rattle.sa_core.specs.TrailView.{lits_of, HasValue}
-use Rattle.sa_core.specs.SolverView.{IsFalse, ByTrue, ByOpen}
-use Rattle.sa_core.specs.Calls.Propagate.{IsScanned}
-use Rattle.jv_list.proofs.ElementLemmas.{in_read}
-use Rattle.sa_core.proofs.LitLemmas.{same_from_test, apart_from_test}
-use Rattle.sa_core.proofs.PropagateLemmas.{in_front, scanned_false, scanned_first, scanned_again}
+use Rattle.sa_core.specs.Calls.Propagate.{IsAskedOf}
+use Rattle.jv_list.proofs.ElementLemmas.{one_at}
+use Rattle.sa_core.proofs.AskLemmas.{all_false, clause_within}
 use Rattle.sa_core.proofs.propagate.asked_by.Goals as goal
-use Rattle.sa_core.proofs.propagate.asked_by.Goals.{in-Some-false, in-None+in-None-single, in-None+in-Some+else-ne}
+use Rattle.sa_core.proofs.propagate.asked_by.Goals.{in-Some-false, in-None}
 
-abbrev first_lit : Lit
-first_lit = record { 0 = 0 }
+pub spare_of-requires : goal.spare_of-requires
+spare_of-requires c lit has =
+    clause_within c.args.trail.now.variables c.args.store.now c.args.place c.at.result.now lit c.requires.within
+    c.at.ensures has
 
-more : (trail lits : List Lit) (i : ℕ) (o p : Option Lit) → i < length lits → p ≡ o
-    → IsScanned trail (take i lits ++ get_or lits i first_lit ∷ []) o → IsScanned trail (take (i + 1) lits) p
-more trail lits i o p lt e h =
-    subst (IsScanned trail (take (i + 1) lits)) (sym e)
-    (subst (λ (l : List Lit). IsScanned trail l o) (sym (take_more lits i first_lit lt)) h)
-
-pub returns-in-Some-true : goal.returns-in-Some-true
-returns-in-Some-true c =
-    let lit = get_or c.args.lits.now c.loop-lit.lit-index first_lit in
-    ByTrue lit (in_read c.args.lits.now c.loop-lit.lit-index first_lit c.loop-lit-test.true)
-    (subst (λ (b : Bool). HasValue (lits_of c.args.trail.now.steps) lit (Some b)) c.in-Some-true.field-0-test
-    c.in-Some-true.ensures)
-
-pub returns-then-ne : goal.returns-then-ne
-returns-then-ne c =
-    let lits = c.args.lits.now in
-    let i = c.loop-lit.lit-index in
-    let lit = get_or lits i first_lit in
-    let other = c.in-Some.other in
-    let asks = subst (IsScanned (lits_of c.args.trail.now.steps) (take i lits)) c.in-Some.is c.loop-lit.invariant in
-    ByOpen other lit (in_front i lits other asks.unit.within) (in_read lits i first_lit c.loop-lit-test.true)
-    (apart_from_test other lit c.ne.result c.ne.ensures c.if-ne.true) asks.unset c.in-None.ensures
-
-pub loop-lit-preserved : goal.loop-lit-preserved
-loop-lit-preserved c =
+pub returns-in-None-spare_of : goal.returns-in-None-spare_of
+returns-in-None-spare_of c lits e =
     let trail = lits_of c.args.trail.now.steps in
-    let lits = c.args.lits.now in
-    let i = c.loop-lit.lit-index in
-    let lit = get_or lits i first_lit in
-    let single = c.match-value.single in
-    let lt = c.loop-lit-test.true in
+    let mine = c.at.result.now in
     elim c.match-value.branch [
       | in-Some-false w ↦
-          more trail lits i c.loop-lit.single single lt w.single-is
-          (scanned_false trail (take i lits) lit c.loop-lit.single c.loop-lit.invariant
-          (subst (λ (b : Bool). HasValue trail lit (Some b)) w.in-Some-false.field-0-test w.in-Some-false.ensures))
-      | in-None+in-None-single w ↦
-          more trail lits i (Some lit) single lt w.single-is
-          (scanned_first trail (take i lits) lit
-          (subst (IsScanned trail (take i lits)) w.in-None-single.is c.loop-lit.invariant) w.in-None.ensures)
-      | in-None+in-Some+else-ne w ↦
-          more trail lits i (Some w.in-Some.other) single lt w.single-is
-          (scanned_again trail (take i lits) lit w.in-Some.other
-          (same_from_test w.in-Some.other lit w.ne.result w.ne.ensures w.if-ne.false)
-          (subst (IsScanned trail (take i lits)) w.in-Some.is c.loop-lit.invariant))
+          subst (λ (asks : Asks). IsAskedOf trail lits c.args.pair c.args.lit asks) (sym w.last-is)
+          (all_false c.args.store.now trail c.args.place mine c.in-Some.other c.at.ensures c.in-None-spare_of.ensures
+          (subst (λ (b : Bool). HasValue trail c.in-Some.other (Some b)) w.in-Some-false.field-0-test
+          w.in-Some-false.ensures)
+          lits e)
+      | in-None w ↦
+          subst (λ (asks : Asks). IsAskedOf trail lits c.args.pair c.args.lit asks) (sym w.last-is)
+          (record {
+            is = c.in-Some.ensures;
+            others = λ lit has ne.
+                c.in-None-spare_of.ensures lit
+                (subst (λ (l : List Lit). Contains l lit)
+                (one_at c.args.store.now c.args.place lits mine e c.at.ensures) has)
+                ne;
+            unset = w.in-None.ensures;
+          })
     ]
-
-pub returns-in-None-single-2 : goal.returns-in-None-single-2
-returns-in-None-single-2 c =
-    let trail = lits_of c.args.trail.now.steps in
-    let lits = c.args.lits.now in
-    let i = c.loop-lit.lit-index in
-    subst (IsFalse trail (length trail)) (take_all i lits c.loop-lit-test.false)
-    (subst (IsScanned trail (take i lits)) c.in-None-single-2.is c.loop-lit.invariant)

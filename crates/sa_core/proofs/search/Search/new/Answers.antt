@@ -5,8 +5,8 @@ use Rattle.cn_clauses.specs.Literals.{variable_of}
 use Rattle.sa_core.specs.SpentLog.{entry_lits}
 use Rattle.sa_core.proofs.search.Search.new.Goals as goal
 
-pub store_clause-requires-clause-within : goal.store_clause-requires-clause-within
-store_clause-requires-clause-within c lit has =
+pub store_clause-requires : goal.store_clause-requires
+store_clause-requires c lit has =
     let entry = c.entry-item.result in
     let stands : Contains c.args.entries.now entry =
     (c.loop-entry.entry-index, c.loop-entry-test.true, sym c.entry-item.is) in

@@ -1,18 +1,27 @@
-use Rattle.sa_core.proofs.GrowLemmas.{grows_cut, cut_justified}
-use Rattle.sa_core.proofs.ReadyLemmas.{ready_by, settled_before}
+use Rattle.std.proofs.Common.{ℕ, sym, subst}
+use Rattle.sa_core.specs.TrailView.{lits_of}
+use Rattle.sa_core.specs.Watching.{IsKept}
+use Rattle.sa_core.proofs.GuardLemmas.{all_settled}
+use Rattle.sa_core.proofs.ReadyLemmas.{kept_cut, ended_before}
 use Rattle.sa_core.proofs.search.Search.restart.Goals as goal
 
 pub returns-clause-ready : goal.returns-clause-ready
 returns-clause-ready c =
     let old = c.args.self.now in
     let cut = c.cut.new.self in
-    ready_by old cut c.requires.ready.stored c.cut.ensures.variables
-    (cut_justified cut.steps old.trail.steps
-    (grows_cut c.first_decision-from.result old.trail.steps cut.steps c.cut.ensures.steps) old.store
-    c.requires.ready.justified)
+    subst (λ (n : ℕ). IsKept n old.store old.watchers cut.steps) (sym c.cut.ensures.variables)
+    (kept_cut old.trail.variables old.store old.watchers old.trail.steps cut.steps c.first_decision-from.result
+    c.requires.ready c.cut.ensures.steps)
+
+pub returns-clause-ended : goal.returns-clause-ended
+returns-clause-ended c =
+    let old = c.args.self.now in
+    ended_before old.trail.variables old.store old.watchers old.trail.steps c.cut.new.self.steps
+    c.first_decision-from.result c.requires.ready c.cut.ensures.steps 0 c.first_decision-from.ensures
 
 pub returns-clause-settled : goal.returns-clause-settled
 returns-clause-settled c =
     let old = c.args.self.now in
-    settled_before old.store old.trail.steps c.cut.new.self.steps 0 c.first_decision-from.result
-    c.requires.ready.justified c.first_decision-from.ensures c.cut.ensures.steps
+    all_settled old.store old.watchers.pairs (lits_of c.cut.new.self.steps) c.requires.ready.stored.count
+    (ended_before old.trail.variables old.store old.watchers old.trail.steps c.cut.new.self.steps
+    c.first_decision-from.result c.requires.ready c.cut.ensures.steps 0 c.first_decision-from.ensures)

@@ -1,5 +1,5 @@
 use Rattle.std.proofs.Common.{◌≡◌, length}
-use Rattle.sa_core.proofs.occurrences.Occurrences.new.Given as goal
+use Rattle.sa_core.proofs.watches.Watchers.new.Given as goal
 
 abbrev pub invariant-loop : goal.invariant-loop
 invariant-loop l = length l.lists.items ≡ l.counter
