@@ -9,6 +9,7 @@ pub mod JumpLemmas
 pub mod LearnLemmas
 pub mod LitLemmas
 pub mod LogLemmas
+pub mod LookLemmas
 pub mod MinimizeLemmas
 pub mod PropagateLemmas
 pub mod ReadyLemmas

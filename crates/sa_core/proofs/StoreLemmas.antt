@@ -52,7 +52,8 @@ within_more n clauses new lits e was within others has lit has_lit =
     ]
 
 -- a clause without watches is stored
-pub stored_more : (variables : ℕ) (clauses new : List (List Lit)) (watchers : Watchers) (pairs : List Pair) (pair : Pair)
+pub stored_more : (variables : ℕ) (clauses new : List (List Lit)) (watchers : Watchers) (pairs : List Pair)
+    (pair : Pair)
     → pairs ≡ watchers.pairs ++ pair ∷ [] → pair.first ≡ pair.second → (lits : List Lit) → new ≡ clauses ++ lits ∷ []
     → IsWithin variables lits → IsStored variables clauses watchers
     → IsStored variables new (record { pairs = pairs; lists = watchers.lists })

@@ -3,7 +3,7 @@ use Rattle.sa_core.specs.TrailView.{lits_of}
 use Rattle.sa_core.specs.Watching.{IsKept}
 use Rattle.sa_core.proofs.TrailLemmas.{lits_length}
 use Rattle.sa_core.proofs.GuardLemmas.{all_settled}
-use Rattle.sa_core.proofs.PropagateLemmas.{ended_at}
+use Rattle.sa_core.proofs.LookLemmas.{ended_at}
 use Rattle.sa_core.proofs.propagate.propagate.Goals as goal
 
 pub returns-clause-propagates : goal.returns-clause-propagates

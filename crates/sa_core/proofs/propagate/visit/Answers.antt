@@ -5,7 +5,8 @@ use Rattle.sa_core.proofs.LitLemmas.{below_size}
 use Rattle.sa_core.proofs.GrowLemmas.{grows_same, grows_push}
 use Rattle.sa_core.proofs.AskLemmas.{pair_within, clause_within}
 use Rattle.sa_core.proofs.WatchLemmas.{drops_length}
-use Rattle.sa_core.proofs.PropagateLemmas.{its_place, visit_past, visit_nothing, visit_literal, other_unit, visits_on}
+use Rattle.sa_core.proofs.PropagateLemmas.{its_place, visit_past, visit_nothing, visit_literal, other_unit}
+use Rattle.sa_core.proofs.LookLemmas.{visits_on}
 use Rattle.sa_core.proofs.TurnLemmas.{visit_turn}
 use Rattle.sa_core.proofs.propagate.visit.Goals as goal
 

@@ -4,7 +4,7 @@ use Rattle.sa_core.specs.Watching.{IsKept}
 use Rattle.sa_core.proofs.LitLemmas.{below_size}
 use Rattle.sa_core.proofs.GrowLemmas.{grows_same}
 use Rattle.sa_core.proofs.JumpLemmas.{trail_within}
-use Rattle.sa_core.proofs.PropagateLemmas.{turning_begin, turning_done}
+use Rattle.sa_core.proofs.LookLemmas.{turning_begin, turning_done}
 use Rattle.sa_core.proofs.propagate.visit_all.Goals as goal
 
 pub count-index-requires : goal.count-index-requires

@@ -154,15 +154,18 @@ propagate-requires-clause-kept c =
       stored =
           stored_watch mid.trail.variables mid.store mid.watchers c.watch.new.self c.pair_of-pair.result
           c.length-place.result stored within c.in_ok-watch.ensures.lists c.in_ok-watch.ensures.pairs;
-      justified = jump_justified c.literal_laws.ensures.opposite_twice c.literal_laws.ensures.opposite_variable old.store
-          old.trail.steps old.trail.places old.trail.variables c.args.mark c.args.lits.now old.trail.placed old.trail.size
+      justified = jump_justified c.literal_laws.ensures.opposite_twice c.literal_laws.ensures.opposite_variable
+          old.store
+          old.trail.steps old.trail.places old.trail.variables c.args.mark c.args.lits.now old.trail.placed
+          old.trail.size
           c.requires.ready.justified c.requires.mark c.requires.learned c.height-limit.result c.height-limit.ensures
           c.first_decision-from.result c.first_decision-from.ensures mid.trail.steps
           (ap (λ (t : Trail). t.steps) c.in_ok-store_clause.ensures.trail ∙ c.cut.ensures.steps) mid.store
           c.in_ok-store_clause.ensures.clauses _ refl c.length-place.result refl c.length-place.ensures
           c.push.new.self.steps c.in_ok-push.ensures.ok;
       guarded = jump_were c.literal_laws.ensures.opposite_twice c.literal_laws.ensures.opposite_variable old.store
-          old.trail.steps old.trail.places old.trail.variables c.args.mark c.args.lits.now old.trail.placed old.trail.size
+          old.trail.steps old.trail.places old.trail.variables c.args.mark c.args.lits.now old.trail.placed
+          old.trail.size
           c.requires.ready.justified c.requires.mark c.requires.learned c.height-limit.result c.height-limit.ensures
           c.first_decision-from.result c.first_decision-from.ensures mid.trail.steps
           (ap (λ (t : Trail). t.steps) c.in_ok-store_clause.ensures.trail ∙ c.cut.ensures.steps) mid.store
