@@ -1,0 +1,4 @@
+pub mod Joins
+pub mod Places
+pub mod Search
+pub mod Ways

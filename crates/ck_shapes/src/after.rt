@@ -1,0 +1,100 @@
+// The shape after an instruction.
+ghost use Rattle.std.specs.Prelude.{◌≡◌, ◌≤◌, IfOk, IfSome, MatchOption, None, length};
+ghost use Rattle.ck_shapes.specs.declared.effect.Effect.{Effect};
+ghost use Rattle.ck_shapes.specs.Shape.{Applies};
+ghost use Rattle.ck_shapes.specs.declared.shape.Shape.{Shape};
+ghost use Rattle.ck_shapes.specs.Calls.Joins.{HasStack, KeepsCount};
+
+use crate::effect::Effect;
+use crate::local::{has_room, holds, store};
+use crate::shape::{Limits, Shape, ValueType};
+use crate::stack::{moved, replaced};
+use jv_list::{List, Mem};
+use std::alloc::Global;
+
+impl Shape {
+    /// The shape after an instruction with an effect. None where the instruction does not find what it takes, or where it names
+    /// a local that there is not.
+    pub fn after(&self, alloc: Global, effect: &Effect, limits: Limits) -> Mem<Option<Shape>>
+        ensures steps { IfOk result (λ found. MatchOption found ((new : Shape) → Applies limits effect.now self.now new → ⊥) (λ new. Applies limits effect.now self.now new)) }
+        ensures within { IfOk result (λ found. IfSome found (λ new. KeepsCount limits self.now new)) }
+    {
+        match effect {
+            Effect::Moves(how) => {
+                let stack = moved(alloc, self.stack.as_slice(), *how)?;
+                self.with_stack(alloc, stack)
+            }
+            Effect::Loads(of, index) => self.loaded(alloc, limits, *of, *index),
+            Effect::Stores(of, index) => self.stored(alloc, limits, *of, *index),
+            Effect::Increments(index) => self.incremented(alloc, limits, *index),
+            Effect::Replaces(takes, leaves) => {
+                let (takes, leaves) = (takes.as_slice(), leaves.as_slice());
+                let stack = replaced(alloc, self.stack.as_slice(), takes, leaves)?;
+                self.with_stack(alloc, stack)
+            }
+        }
+    }
+
+    /// The shape with another stack, if there is one.
+    fn with_stack(&self, alloc: Global, stack: Option<List<ValueType>>) -> Mem<Option<Shape>>
+        ensures { IfOk result (λ found. MatchOption found (stack ≡ None) (HasStack self.now stack)) }
+    {
+        let Some(stack) = stack else {
+            return Ok(None);
+        };
+        let locals = List::copied(alloc, self.locals.as_slice())?;
+        Ok(Some(Shape { locals, stack }))
+    }
+
+    fn loaded(
+        &self,
+        alloc: Global,
+        limits: Limits,
+        of: ValueType,
+        index: u16,
+    ) -> Mem<Option<Shape>>
+        ensures steps { IfOk result (λ found. MatchOption found ((new : Shape) → Applies limits (Effect.Loads of index) self.now new → ⊥) (λ new. Applies limits (Effect.Loads of index) self.now new)) }
+        ensures within { IfOk result (λ found. IfSome found (λ new. KeepsCount limits self.now new)) }
+    {
+        if !holds(limits, self.locals.as_slice(), of, index) {
+            return Ok(None);
+        }
+        let mut after = self.copy(alloc)?;
+        after.stack.add(of)?;
+        Ok(Some(after))
+    }
+
+    fn stored(
+        &self,
+        alloc: Global,
+        limits: Limits,
+        of: ValueType,
+        index: u16,
+    ) -> Mem<Option<Shape>>
+        ensures steps { IfOk result (λ found. MatchOption found ((new : Shape) → Applies limits (Effect.Stores of index) self.now new → ⊥) (λ new. Applies limits (Effect.Stores of index) self.now new)) }
+        ensures within { IfOk result (λ found. IfSome found (λ new. KeepsCount limits self.now new)) }
+    {
+        if !has_room(limits, of, index) {
+            return Ok(None);
+        }
+        let Some((top, rest)) = self.stack.as_slice().split_last() else {
+            return Ok(None);
+        };
+        if *top != of {
+            return Ok(None);
+        }
+        let locals = store(alloc, self.locals.as_slice(), of, index)?;
+        let stack = List::copied(alloc, rest)?;
+        Ok(Some(Shape { locals, stack }))
+    }
+
+    fn incremented(&self, alloc: Global, limits: Limits, index: u16) -> Mem<Option<Shape>>
+        ensures steps { IfOk result (λ found. MatchOption found ((new : Shape) → Applies limits (Effect.Increments index) self.now new → ⊥) (λ new. Applies limits (Effect.Increments index) self.now new)) }
+        ensures within { IfOk result (λ found. IfSome found (λ new. KeepsCount limits self.now new)) }
+    {
+        if !holds(limits, self.locals.as_slice(), ValueType::Int, index) {
+            return Ok(None);
+        }
+        Ok(Some(self.copy(alloc)?))
+    }
+}

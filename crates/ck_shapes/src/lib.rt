@@ -1,0 +1,18 @@
+//! Shapes of code: the types of the locals and of the operand stack of a frame at each instruction.
+#![tactic(auto)]
+
+mod after;
+mod effect;
+mod find;
+mod flow;
+mod local;
+mod places;
+mod search;
+mod shape;
+mod stack;
+mod way;
+
+pub use effect::{Effect, Move};
+pub use find::{Shapes, find_shapes};
+pub use flow::{Action, Flow, Handler, Step};
+pub use shape::{Limits, Shape, ValueType};
