@@ -50,10 +50,11 @@ build_table f (suc n) =
 -- there are locals after a store
 store_exists : (old : Locals) (t : ValueType) (n : ℕ) → (new : Locals) × AreStored old t n new
 store_exists old t n =
-    let count : ℕ = length old + suc n in
-    (build (stored old t n) count,
-     λ i. table_whole (stored old t n) count (build (stored old t n) count) (build_table (stored old t n) count)
-     (λ j le. stored_past old t n j (omega arith) (omega arith)) i)
+    let count : ℕ = length old + suc n in (
+      build (stored old t n) count,
+      λ i. table_whole (stored old t n) count (build (stored old t n) count) (build_table (stored old t n) count)
+          (λ j le. stored_past old t n j (omega arith) (omega arith)) i,
+    )
 
 -- ---- effects
 

@@ -171,12 +171,14 @@ module _ (o : Option Shape) (k shape : Shape) (is : o ≡ Some k) where
       → k.stack ≡ shape.stack → both.stack ≡ shape.stack → IsKnownOnlyHere a b → AreCommon e f both.locals
       → length both.locals ≤ length e → JoinsTo o shape both
   met_becomes a b e f both p q r s same stack only common long =
-      subst (λ (x : Option Shape). JoinsTo x shape both) (sym is)
-      (record {
-        same = same;
-        stack = stack;
-        locals = subst (λ (x : Locals). AreCommon x shape.locals both.locals) r
-            (subst (λ (x : Locals). AreCommon e x both.locals) s common);
-        long = omega (arith, long, ap length r);
-      }, subst (λ (x : Locals). IsKnownOnlyHere x shape.locals) p
-      (subst (λ (x : Locals). IsKnownOnlyHere a x) q only))
+      subst (λ (x : Option Shape). JoinsTo x shape both) (sym is) (
+        record {
+          same = same;
+          stack = stack;
+          locals = subst (λ (x : Locals). AreCommon x shape.locals both.locals) r
+              (subst (λ (x : Locals). AreCommon e x both.locals) s common);
+          long = omega (arith, long, ap length r);
+        },
+        subst (λ (x : Locals). IsKnownOnlyHere x shape.locals) p
+            (subst (λ (x : Locals). IsKnownOnlyHere a x) q only),
+      )

@@ -99,5 +99,5 @@ place_within steps places pc s are e = let c : (pc < length places) ⊎ (length 
     elim c [
       | inl lt ↦ lt
       | inr le ↦ absurd (none-some s (sym (are pc ∙ ap (option_and_then (slice_get steps))
-        (ap (option_and_then (λ p. p)) (slice_get_past places pc le))) ∙ e))
+          (ap (option_and_then (λ p. p)) (slice_get_past places pc le))) ∙ e))
     ]

@@ -171,9 +171,9 @@ module _ (limits : Limits) (old : Known) (pc : ℕ) (shape : Shape) (new : Known
         led.0,
         ap all same ∙ led.1,
         subst (λ (x : Shape). IsWeaker led.0 x) is
-        (joins_most (shape_at old.shapes pc) shape p.both led.0 p.joins led.2
-        (λ k has. let l = below pc k has in
-        subst (λ (x : Shape). IsWeaker x k) (same_Some l.0 led.0 (sym l.1 ∙ led.1)) l.2)),
+            (joins_most (shape_at old.shapes pc) shape p.both led.0 p.joins led.2
+            (λ k has. let l = below pc k has in
+            subst (λ (x : Shape). IsWeaker x k) (same_Some l.0 led.0 (sym l.1 ∙ led.1)) l.2)),
       ))
       (λ ne. below at s (sym (puts_other p at ne) ∙ e))
 

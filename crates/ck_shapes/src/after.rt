@@ -46,13 +46,7 @@ impl Shape {
         Ok(Some(Shape { locals, stack }))
     }
 
-    fn loaded(
-        &self,
-        alloc: Global,
-        limits: Limits,
-        of: ValueType,
-        index: u16,
-    ) -> Mem<Option<Shape>>
+    fn loaded(&self, alloc: Global, limits: Limits, of: ValueType, index: u16) -> Mem<Option<Shape>>
         ensures steps { IfOk result (λ found. MatchOption found ((new : Shape) → Applies limits (Effect.Loads of index) self.now new → ⊥) (λ new. Applies limits (Effect.Loads of index) self.now new)) }
         ensures within { IfOk result (λ found. IfSome found (λ new. KeepsCount limits self.now new)) }
     {
@@ -64,13 +58,7 @@ impl Shape {
         Ok(Some(after))
     }
 
-    fn stored(
-        &self,
-        alloc: Global,
-        limits: Limits,
-        of: ValueType,
-        index: u16,
-    ) -> Mem<Option<Shape>>
+    fn stored(&self, alloc: Global, limits: Limits, of: ValueType, index: u16) -> Mem<Option<Shape>>
         ensures steps { IfOk result (λ found. MatchOption found ((new : Shape) → Applies limits (Effect.Stores of index) self.now new → ⊥) (λ new. Applies limits (Effect.Stores of index) self.now new)) }
         ensures within { IfOk result (λ found. IfSome found (λ new. KeepsCount limits self.now new)) }
     {

@@ -49,7 +49,13 @@ fn met(alloc: Global, known: &Option<Shape>, shape: &Shape) -> Mem<Meeting>
 }
 
 /// Leads a shape to a pc. False where it cannot stand there.
-pub(crate) fn lead(alloc: Global, limits: Limits, known: &mut Known, pc: u16, shape: &Shape) -> Mem<bool>
+pub(crate) fn lead(
+    alloc: Global,
+    limits: Limits,
+    known: &mut Known,
+    pc: u16,
+    shape: &Shape,
+) -> Mem<bool>
     requires { length shape.now.locals ≤ limits.max_locals }
     ensures { IfOk result (λ b. Leads limits known.old pc shape.now b known.new) }
 {

@@ -100,8 +100,7 @@ returns-clause-below c =
     let led = below c.args.pc shape (sym c.in-Some.ensures) in
     let said = c.in_ok-lead_all.ensures.below all can below
     (λ to h. all_nexts flow old mid new c.args.pc shape way is all rules led to
-    (subst (λ (l : List ℕ). Contains l to) c.as_slice.ensures h)) in
-    (
+    (subst (λ (l : List ℕ). Contains l to) c.as_slice.ensures h)) in (
       subst (λ (n : ℕ). CanStand flow.limits n all) (sym first.long) can,
       said.1,
       λ to h. all_handlers flow old mid new c.args.pc shape way is all rules led to
