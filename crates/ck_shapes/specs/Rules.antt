@@ -1,12 +1,13 @@
 -- Which shapes meet the rules (JVM Specification SE 8, 4.9.2 and 4.10.1), by what each instruction does and where it goes.
 use Rattle.std.specs.Prelude.{◌≡◌, ℕ, ◌==◌, ◌≤◌, ◌<◌, if◌then◌else◌, List, [], ◌∷◌, length, Option, Some, None}
-use Rattle.std.specs.Prelude.{Contains, option_and_then, slice_get}
+use Rattle.std.specs.Prelude.{Contains, MatchOption, option_and_then, slice_get}
 use Rattle.ck_shapes.specs.declared.shape.ValueType.TheVariants.{Reference}
 use Rattle.ck_shapes.specs.declared.shape.Shape.{Shape}
 use Rattle.ck_shapes.specs.declared.flow.Action.{Action}
 use Rattle.ck_shapes.specs.declared.flow.Step.{Step}
 use Rattle.ck_shapes.specs.declared.flow.Handler.{Handler}
 use Rattle.ck_shapes.specs.declared.flow.Flow.{Flow}
+use Rattle.ck_shapes.specs.declared.find.Shapes.{Shapes}
 use Rattle.ck_shapes.specs.Shape.{words, Applies, IsWeaker}
 
 -- the shapes at the pcs that have one
@@ -51,3 +52,8 @@ pub record MeetsRules (flow : Flow) (shapes : GivenShapes) : Type 0 where
   pub entry : IsLed shapes flow.start 0
   pub room : (pc : ℕ) (shape : Shape) → shapes pc ≡ Some shape → words shape.stack ≤ flow.limits.max_stack
   pub flows : (pc : ℕ) (shape : Shape) → shapes pc ≡ Some shape → Flows flow shapes pc shape
+
+-- shapes that meet the rules; none where no shapes meet them
+abbrev pub AreShapesOf : Flow → Option Shapes → Type 0
+AreShapesOf flow found =
+    MatchOption found ((all : GivenShapes) → MeetsRules flow all → ⊥) (λ s. MeetsRules flow (shape_at s.shapes))

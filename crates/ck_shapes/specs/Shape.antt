@@ -1,6 +1,6 @@
 -- GivenShapes of frames (JVM Specification SE 8, 2.6.1, 2.6.2, 4.10.1.2), and what an instruction does to them (6.5).
 use Rattle.std.specs.Prelude.{◌≡◌, ℕ, ◌+◌, ◌==◌, ◌≤◌, ◌&&◌, Bool, true, false, if◌then◌else◌, List, [], ◌∷◌, ◌++◌}
-use Rattle.std.specs.Prelude.{slice_get, Option, Some, None, option_and_then}
+use Rattle.std.specs.Prelude.{slice_get, Option, Some, None, option_and_then, MatchOption}
 use Rattle.ck_shapes.specs.declared.shape.ValueType.{ValueType}
 use Rattle.ck_shapes.specs.declared.shape.ValueType.TheVariants.{Int, Long, Reference}
 use Rattle.ck_shapes.specs.declared.shape.Shape.{Shape}
@@ -106,3 +106,8 @@ Applies limits (Increments n) old new =
     Holds limits old.locals Int n × HaveSame old.locals new.locals × (new.stack ≡ old.stack)
 Applies limits (Replaces takes leaves) old new =
     HaveSame old.locals new.locals × IsReplaced takes leaves old.stack new.stack
+
+-- the shape after an effect; none where it cannot be had
+abbrev pub IsAfter : Limits → Effect → Shape → Option Shape → Type 0
+IsAfter limits effect old found =
+    MatchOption found ((new : Shape) → Applies limits effect old new → ⊥) (λ new. Applies limits effect old new)

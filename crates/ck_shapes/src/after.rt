@@ -1,8 +1,7 @@
 // The shape after an instruction.
 ghost use Rattle.std.specs.Prelude.{◌≡◌, ◌≤◌, IfOk, IfSome, MatchOption, None, length};
 ghost use Rattle.ck_shapes.specs.declared.effect.Effect.{Effect};
-ghost use Rattle.ck_shapes.specs.Shape.{Applies};
-ghost use Rattle.ck_shapes.specs.declared.shape.Shape.{Shape};
+ghost use Rattle.ck_shapes.specs.Shape.{IsAfter};
 ghost use Rattle.ck_shapes.specs.Calls.Joins.{HasStack, KeepsCount};
 
 use crate::effect::Effect;
@@ -13,10 +12,10 @@ use jv_list::{List, Mem};
 use std::alloc::Global;
 
 impl Shape {
-    /// The shape after an instruction with an effect. None where the instruction does not find what it takes, or where it names
-    /// a local that there is not.
+    /// The shape after an instruction with an effect. None where the instruction does not find what it takes, or
+    /// where it names a local that there is not.
     pub fn after(&self, alloc: Global, effect: &Effect, limits: Limits) -> Mem<Option<Shape>>
-        ensures steps { IfOk result (λ found. MatchOption found ((new : Shape) → Applies limits effect.now self.now new → ⊥) (λ new. Applies limits effect.now self.now new)) }
+        ensures steps { IfOk result (IsAfter limits effect.now self.now) }
         ensures within { IfOk result (λ found. IfSome found (λ new. KeepsCount limits self.now new)) }
     {
         match effect {
@@ -47,7 +46,7 @@ impl Shape {
     }
 
     fn loaded(&self, alloc: Global, limits: Limits, of: ValueType, index: u16) -> Mem<Option<Shape>>
-        ensures steps { IfOk result (λ found. MatchOption found ((new : Shape) → Applies limits (Effect.Loads of index) self.now new → ⊥) (λ new. Applies limits (Effect.Loads of index) self.now new)) }
+        ensures steps { IfOk result (IsAfter limits (Effect.Loads of index) self.now) }
         ensures within { IfOk result (λ found. IfSome found (λ new. KeepsCount limits self.now new)) }
     {
         if !holds(limits, self.locals.as_slice(), of, index) {
@@ -59,7 +58,7 @@ impl Shape {
     }
 
     fn stored(&self, alloc: Global, limits: Limits, of: ValueType, index: u16) -> Mem<Option<Shape>>
-        ensures steps { IfOk result (λ found. MatchOption found ((new : Shape) → Applies limits (Effect.Stores of index) self.now new → ⊥) (λ new. Applies limits (Effect.Stores of index) self.now new)) }
+        ensures steps { IfOk result (IsAfter limits (Effect.Stores of index) self.now) }
         ensures within { IfOk result (λ found. IfSome found (λ new. KeepsCount limits self.now new)) }
     {
         if !has_room(limits, of, index) {
@@ -77,7 +76,7 @@ impl Shape {
     }
 
     fn incremented(&self, alloc: Global, limits: Limits, index: u16) -> Mem<Option<Shape>>
-        ensures steps { IfOk result (λ found. MatchOption found ((new : Shape) → Applies limits (Effect.Increments index) self.now new → ⊥) (λ new. Applies limits (Effect.Increments index) self.now new)) }
+        ensures steps { IfOk result (IsAfter limits (Effect.Increments index) self.now) }
         ensures within { IfOk result (λ found. IfSome found (λ new. KeepsCount limits self.now new)) }
     {
         if !holds(limits, self.locals.as_slice(), ValueType::Int, index) {

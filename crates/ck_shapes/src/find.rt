@@ -1,6 +1,6 @@
 // Whether code has shapes that meet the rules, and which.
-ghost use Rattle.std.specs.Prelude.{◌≡◌, IfOk, MatchOption, option_copied, replicate, None, []};
-ghost use Rattle.ck_shapes.specs.Rules.{shape_at, GivenShapes, MeetsRules};
+ghost use Rattle.std.specs.Prelude.{◌≡◌, IfOk, option_copied, replicate, None, []};
+ghost use Rattle.ck_shapes.specs.Rules.{shape_at, AreShapesOf};
 
 use crate::flow::Flow;
 use crate::places::places_of;
@@ -26,7 +26,7 @@ impl Shapes {
 
 /// Shapes of code that meet the rules; None where no shapes meet them. They are the ones of which most is known.
 pub fn find_shapes(alloc: Global, flow: &Flow) -> Mem<Option<Shapes>>
-    ensures { IfOk result (λ found. MatchOption found ((all : GivenShapes) → MeetsRules flow.now all → ⊥) (λ s. MeetsRules flow.now (shape_at s.shapes))) }
+    ensures { IfOk result (AreShapesOf flow.now) }
 {
     let limits = flow.limits;
     if flow.start.locals.length() > usize::from(limits.max_locals) {

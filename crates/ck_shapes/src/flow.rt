@@ -29,7 +29,8 @@ pub struct Handler {
     pub handler: u16,
 }
 
-/// The code of a method: its instructions, its handlers, how much a frame may have, and the shape that a frame begins with.
+/// The code of a method: its instructions, its handlers, how much a frame may have, and the shape that a frame begins
+/// with.
 #[derive(Debug, Drop)]
 pub struct Flow {
     pub steps: List<Step>,
@@ -39,8 +40,8 @@ pub struct Flow {
 }
 
 impl Shape {
-    /// The shape at a handler of an instruction that has this shape: the locals before the instruction, and on the stack what was
-    /// thrown (JVM Specification SE 8, 2.10).
+    /// The shape at a handler of an instruction that has this shape: the locals before the instruction, and on the
+    /// stack what was thrown (JVM Specification SE 8, 2.10).
     pub(crate) fn at_handler(&self, alloc: Global) -> Mem<Shape>
         ensures { IfOk result (λ shape. shape ≡ at_handler self.now) }
     {

@@ -1,7 +1,7 @@
 // What instructions do to the operand stack.
-ghost use Rattle.std.specs.Prelude.{◌≡◌, ◌↔◌, ◌≤◌, ◌++◌, Bool, ℕ, IsTrue, IfOk, IfSome, OnOk, MatchOption, List as list_of, length, drop, Some};
-ghost use Rattle.ck_shapes.specs.declared.shape.ValueType.{ValueType};
-ghost use Rattle.ck_shapes.specs.Shape.{kept, words, IsMoved, IsReplaced};
+ghost use Rattle.std.specs.Prelude.{◌≡◌, ◌↔◌, ◌≤◌, ◌++◌, ℕ, IsTrue, IfOk, IfSome, OnOk, length, drop, Some};
+ghost use Rattle.ck_shapes.specs.Shape.{kept, words};
+ghost use Rattle.ck_shapes.specs.Calls.Joins.{reordered, GivesMoved, GivesReplaced};
 
 use crate::effect::Move;
 use crate::shape::ValueType;
@@ -62,7 +62,7 @@ fn rearranged(
     top: &[ValueType],
     how: Move,
 ) -> Mem<List<ValueType>>
-    ensures { IfOk result (λ new. new ≡ rest.now ++ kept how.puts_below top.now ++ under.now ++ kept how.puts_above top.now) }
+    ensures { IfOk result (λ new. new ≡ reordered how rest.now under.now top.now) }
 {
     let mut new = List::copied(alloc, rest)?;
     extend_if(&mut new, how.puts_below, top)?;
@@ -73,7 +73,7 @@ fn rearranged(
 
 /// The stack after a move. None where there are not so many words, or a long would be parted.
 pub(crate) fn moved(alloc: Global, stack: &[ValueType], how: Move) -> Mem<Option<List<ValueType>>>
-    ensures { IfOk result (λ found. MatchOption found ((new : list_of ValueType) → IsMoved how stack.now new → ⊥) (λ new. IsMoved how stack.now new)) }
+    ensures { IfOk result (GivesMoved how stack.now) }
 {
     let Some(above) = below(stack, how.top) else {
         return Ok(None);
@@ -93,7 +93,7 @@ pub(crate) fn replaced(
     takes: &[ValueType],
     leaves: &[ValueType],
 ) -> Mem<Option<List<ValueType>>>
-    ensures { IfOk result (λ found. MatchOption found ((new : list_of ValueType) → IsReplaced takes.now leaves.now stack.now new → ⊥) (λ new. IsReplaced takes.now leaves.now stack.now new)) }
+    ensures { IfOk result (GivesReplaced takes.now leaves.now stack.now) }
 {
     let Some(rest) = stack.strip_suffix(takes) else {
         return Ok(None);

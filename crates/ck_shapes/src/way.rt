@@ -1,8 +1,8 @@
 // Where an instruction takes a shape.
-ghost use Rattle.std.specs.Prelude.{◌≡◌, IfOk, IfSome, MatchOption};
+ghost use Rattle.std.specs.Prelude.{◌≡◌, IfOk, IfSome};
 ghost use Rattle.ck_shapes.specs.Calls.Joins.{KeepsCount};
 ghost use Rattle.ck_shapes.specs.Calls.Places.{ArePlaces};
-ghost use Rattle.ck_shapes.specs.Calls.Ways.{IsWay, HasNoWay, handlers_at};
+ghost use Rattle.ck_shapes.specs.Calls.Ways.{handlers_at, GivesWay};
 
 use crate::flow::{Flow, Handler};
 use crate::places::step_of;
@@ -10,8 +10,8 @@ use crate::shape::Shape;
 use jv_list::{List, Mem};
 use std::alloc::Global;
 
-/// Where an instruction takes a shape: the shape after it, with the pcs that can be next; and the shape at its handlers, with the
-/// pcs of these.
+/// Where an instruction takes a shape: the shape after it, with the pcs that can be next; and the shape at its
+/// handlers, with the pcs of these.
 #[derive(Debug, Drop)]
 pub(crate) struct Way {
     pub after: Shape,
@@ -29,7 +29,7 @@ pub(crate) fn way_of(
     shape: &Shape,
 ) -> Mem<Option<Way>>
     requires { ArePlaces flow.now.steps places.now }
-    ensures way { IfOk result (λ found. MatchOption found (HasNoWay flow.now pc shape.now) (IsWay flow.now pc shape.now)) }
+    ensures way { IfOk result (GivesWay flow.now pc shape.now) }
     ensures within { IfOk result (λ found. IfSome found (λ way. KeepsCount flow.now.limits shape.now way.after)) }
 {
     let Some(step) = step_of(flow.steps.as_slice(), places, pc) else {

@@ -1,10 +1,11 @@
--- Serves the search for shapes: what two frames that meet both know.
-use Rattle.std.specs.Prelude.{◌≡◌, ◌≤◌, ℕ, List, length, Option, Some, None}
+-- Serves the search for shapes: what two frames that meet both know, and what the parts of a shape become.
+use Rattle.std.specs.Prelude.{◌≡◌, ◌≤◌, ℕ, List, length, Option, Some, None, ◌++◌, MatchOption}
 use Rattle.ck_shapes.specs.declared.shape.ValueType.{ValueType}
 use Rattle.ck_shapes.specs.declared.shape.ValueType.TheVariants.{Int, Long, Reference}
 use Rattle.ck_shapes.specs.declared.shape.Shape.{Shape}
 use Rattle.ck_shapes.specs.declared.shape.Limits.{Limits}
-use Rattle.ck_shapes.specs.Shape.{local_at}
+use Rattle.ck_shapes.specs.declared.effect.Move.{Move}
+use Rattle.ck_shapes.specs.Shape.{local_at, kept, IsMoved, IsReplaced}
 
 -- what two locals have in common
 abbrev pub common : Option ValueType → Option ValueType → Option ValueType
@@ -37,3 +38,20 @@ HasStack old stack new = (new.locals ≡ old.locals) × (stack ≡ Some new.stac
 -- it has no more locals than there may be, where it had no more before
 abbrev pub KeepsCount : Limits → Shape → Shape → Type 0
 KeepsCount limits old new = length old.locals ≤ limits.max_locals → length new.locals ≤ limits.max_locals
+
+-- ---- stacks
+
+-- a stack where what is under the top is put in another order
+abbrev pub reordered : Move → List ValueType → List ValueType → List ValueType → List ValueType
+reordered how rest under top = rest ++ kept how.puts_below top ++ under ++ kept how.puts_above top
+
+-- the stack after a move, or none
+abbrev pub GivesMoved : Move → List ValueType → Option (List ValueType) → Type 0
+GivesMoved how old found =
+    MatchOption found ((new : List ValueType) → IsMoved how old new → ⊥) (λ new. IsMoved how old new)
+
+-- the stack where values are replaced, or none
+abbrev pub GivesReplaced : List ValueType → List ValueType → List ValueType → Option (List ValueType) → Type 0
+GivesReplaced takes leaves old found =
+    MatchOption found ((new : List ValueType) → IsReplaced takes leaves old new → ⊥)
+    (λ new. IsReplaced takes leaves old new)

@@ -1,5 +1,5 @@
 -- Serves the search for shapes: where an instruction takes a shape.
-use Rattle.std.specs.Prelude.{◌≡◌, ℕ, Bool, ◌&&◌, nat_le, nat_lt, List, map, Some}
+use Rattle.std.specs.Prelude.{◌≡◌, ℕ, Bool, ◌&&◌, nat_le, nat_lt, List, map, Option, Some, MatchOption}
 use Rattle.std.specs.List.{filter}
 use Rattle.ck_shapes.specs.declared.shape.Shape.{Shape}
 use Rattle.ck_shapes.specs.declared.flow.Action.{Action}
@@ -33,3 +33,6 @@ abbrev pub HasNoWay : Flow → ℕ → Shape → Type 0
 HasNoWay flow pc shape =
     (step : Step) (action : Action) (after : Shape) → step_at flow.steps pc ≡ Some step → step.action ≡ Some action
     → Applies flow.limits action.effect shape after → ⊥
+
+abbrev pub GivesWay : Flow → ℕ → Shape → Option Way → Type 0
+GivesWay flow pc shape found = MatchOption found (HasNoWay flow pc shape) (IsWay flow pc shape)
