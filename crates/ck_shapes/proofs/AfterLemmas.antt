@@ -49,8 +49,8 @@ module _ {E : Type 0} (limits : Limits) (old : Shape) (effect : Effect) where
       subst (λ (x : Effect). Applies limits x old new) (sym is)
       (same_locals old new h.0, subst (λ (l : List ValueType). IsReplaced takes leaves old.stack l) e m)
 
-  pub moved_gives : (how : Move) (items : List ValueType) (stack : Option (List ValueType)) (r : Result (Option Shape) E)
-      → effect ≡ Moves how → items ≡ old.stack
+  pub moved_gives : (how : Move) (items : List ValueType) (stack : Option (List ValueType))
+      (r : Result (Option Shape) E) → effect ≡ Moves how → items ≡ old.stack
       → MatchOption stack ((new : List ValueType) → IsMoved how items new → ⊥) (λ new. IsMoved how items new)
       → IfOk r (λ found. MatchOption found (stack ≡ None) (HasStack old stack)) → Gives limits effect old r
   moved_gives how items stack r is same m h =

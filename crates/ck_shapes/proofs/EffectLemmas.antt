@@ -12,7 +12,7 @@ use Rattle.ck_shapes.specs.declared.effect.Effect.{Effect}
 use Rattle.ck_shapes.specs.declared.effect.Effect.TheVariants.{Moves, Loads, Stores, Increments, Replaces}
 use Rattle.ck_shapes.specs.Shape.{is_long, local_at, stored, HaveSame, AreStored, IsKnownLess, IsWeaker, Applies}
 use Rattle.ck_shapes.specs.Shape.{IsMoved, IsReplaced}
-use Rattle.ck_shapes.proofs.LocalLemmas.{Locals, IsTable, table_none, table_push, table_whole, stored_past, same_choices}
+use Rattle.ck_shapes.proofs.LocalLemmas.{Locals, IsTable, table_none, table_push, table_whole, stored_past}
 use Rattle.ck_shapes.proofs.StackLemmas.{one_moved, one_replaced}
 
 -- ---- stores

@@ -149,7 +149,8 @@ pub joined_long : (max : ℕ) (o : Option Shape) (shape both : Shape) → length
 joined_long max None shape both le known j = omega (arith, le, ap (λ (s : Shape). length s.locals) j)
 joined_long max (Some k) shape both le known j = omega (arith, known k refl, j.0.long)
 
-pub stands_weaker : (o : Option Shape) (shape : Shape) → StandsFor o shape → (k : Shape) × (o ≡ Some k) × IsWeaker k shape
+pub stands_weaker : (o : Option Shape) (shape : Shape) → StandsFor o shape
+    → (k : Shape) × (o ≡ Some k) × IsWeaker k shape
 stands_weaker None shape h = absurd h
 stands_weaker (Some k) shape h = (k, refl, h)
 
@@ -167,7 +168,8 @@ module _ (o : Option Shape) (k shape : Shape) (is : o ≡ Some k) where
             (subst (λ (x : Locals). IsKnownLess a x) q less);
       })
 
-  pub met_becomes : (a b e f : Locals) (both : Shape) → a ≡ k.locals → b ≡ shape.locals → e ≡ k.locals → f ≡ shape.locals
+  pub met_becomes : (a b e f : Locals) (both : Shape) → a ≡ k.locals → b ≡ shape.locals → e ≡ k.locals
+      → f ≡ shape.locals
       → k.stack ≡ shape.stack → both.stack ≡ shape.stack → IsKnownOnlyHere a b → AreCommon e f both.locals
       → length both.locals ≤ length e → JoinsTo o shape both
   met_becomes a b e f both p q r s same stack only common long =

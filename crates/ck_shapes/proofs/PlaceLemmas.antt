@@ -82,14 +82,16 @@ first_more steps i pc s old new lt is same first note =
     let long : length (take i steps) ≡ i = omega (arith, length-take i steps) in
     let more : take (i + 1) steps ≡ take i steps ++ s ∷ [] =
     take_more steps i s lt ∙ ap (λ (x : Step). take i steps ++ x ∷ []) (sym is) in
-    let noted_is : (at : ℕ) → place_at new at ≡ (if (s.pc == at) && is_none (place_at old at) then Some i else place_at old at) =
+    let noted_is : (at : ℕ) → place_at new at ≡
+    (if (s.pc == at) && is_none (place_at old at) then Some i else place_at old at) =
     λ at. note at ∙ ap (λ (k : ℕ). noted old k i at) same in
     record {
       found = λ at.
           subst (λ (l : List Step). step_at l at ≡ option_and_then (slice_get l) (place_at new at)) (sym more)
           (place_step (take i steps) s (place_at old at) (place_at new at) at
           (λ p e. omega (arith, first.within at p e, long)) (first.found at)
-          (noted_is at ∙ ap (λ (k : ℕ). if (s.pc == at) && is_none (place_at old at) then Some k else place_at old at) (sym long)));
+          (noted_is at
+          ∙ ap (λ (k : ℕ). if (s.pc == at) && is_none (place_at old at) then Some k else place_at old at) (sym long)));
       within = λ at p e. within_step (s.pc == at) i p (place_at old at) (first.within at) (sym (noted_is at) ∙ e);
     }
 

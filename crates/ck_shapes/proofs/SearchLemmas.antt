@@ -192,7 +192,8 @@ module _ (limits : Limits) (old : Known) (pc : ℕ) (shape : Shape) (new : Known
       h (sym l.2.stack ∙ ap (λ (x : Shape). x.stack) (same_Some l.0 led.0 (sym l.1 ∙ led.1)) ∙ led.2.stack)
 
   -- a lead succeeds where some shapes that meet the rules have it, and stays above them
-  pub lead_below : (b : Bool) (all : GivenShapes) → Leads limits old pc shape b new → CanStand limits (length old.shapes) all
+  pub lead_below : (b : Bool) (all : GivenShapes) → Leads limits old pc shape b new
+      → CanStand limits (length old.shapes) all
       → AreBelow old.shapes all → IsLed all shape pc → IsTrue b × AreBelow new.shapes all
   lead_below true all leads can below led = (refl, below_step all leads.0 leads.1 below led)
   lead_below false all leads can below led =

@@ -1,6 +1,7 @@
 -- The words of a stack, and how it is cut and moved.
-use Rattle.std.proofs.Common.{◌≡◌, ℕ, zero, suc, ◌+◌, ◌≤◌, ◌<◌, ◌-◌, List, [], ◌∷◌, ◌++◌, length, take, drop, get_or, ◌⊎◌}
-use Rattle.std.proofs.Common.{Bool, true, false, Decides, refl, sym, ap, subst, ◌∙◌, arith, inl, inr, Option, Some, None}
+use Rattle.std.proofs.Common.{◌≡◌, ℕ, zero, suc, ◌+◌, ◌≤◌, ◌<◌, ◌-◌, List, [], ◌∷◌, ◌++◌, length, take, drop, get_or}
+use Rattle.std.proofs.Common.{◌⊎◌}
+use Rattle.std.proofs.Common.{Bool, true, false, Decides, refl, sym, ap, subst, ◌∙◌, arith, inl, inr}
 use Rattle.std.proofs.Common.{not}
 use Rattle.std.specs.Cmp.Lexicographic.{pointwise}
 use Rattle.std.proofs.lemmas.Slice.Eq.{slice_eq-Decides}
@@ -178,7 +179,8 @@ second_cut s front k how new m counted is =
     let e = cut_rest s how.top m.lower m.top (take k s) (drop k s) m.above (cut_at s how.top k counted) in
     subst (λ (l : List ValueType). IsCut l how.under m.rest m.under) (e ∙ sym is) m.below
 
-pub one_replaced : (takes leaves old a b : List ValueType) → IsReplaced takes leaves old a → IsReplaced takes leaves old b
+pub one_replaced : (takes leaves old a b : List ValueType) → IsReplaced takes leaves old a
+    → IsReplaced takes leaves old b
     → a ≡ b
 one_replaced takes leaves old a b p q =
     let rest : p.rest ≡ q.rest = append_cancel_right p.rest q.rest takes (sym p.old_is ∙ q.old_is) in

@@ -1,4 +1,5 @@
--- Which shapes meet the rules (JVM Specification SE 8, 4.9.2 and 4.10.1), by what each instruction does and where it goes.
+-- Which shapes meet the rules (JVM Specification SE 8, 4.9.2 and 4.10.1), by what each instruction does and where it
+-- goes.
 use Rattle.std.specs.Prelude.{◌≡◌, ℕ, ◌==◌, ◌≤◌, ◌<◌, if◌then◌else◌, List, [], ◌∷◌, length, Option, Some, None}
 use Rattle.std.specs.Prelude.{Contains, MatchOption, option_and_then, slice_get}
 use Rattle.ck_shapes.specs.declared.shape.ValueType.TheVariants.{Reference}
@@ -46,7 +47,8 @@ pub record Flows (flow : Flow) (shapes : GivenShapes) (pc : ℕ) (shape : Shape)
   pub nexts : (next : ℕ) → Contains action.nexts next → IsLed shapes after next
   pub handlers : (h : Handler) → Contains flow.handlers h → Covers h pc → IsLed shapes (at_handler shape) h.handler
 
--- These shapes meet the rules. At pc 0 stands a shape where that of the start is expected; a pc that is never reached needs none.
+-- These shapes meet the rules. At pc 0 stands a shape where that of the start is expected; a pc that is never reached
+-- needs none.
 pub record MeetsRules (flow : Flow) (shapes : GivenShapes) : Type 0 where
   pub locals : length flow.start.locals ≤ flow.limits.max_locals
   pub entry : IsLed shapes flow.start 0

@@ -41,7 +41,8 @@ is_long (Some Int) = false
 is_long (Some Long) = true
 is_long (Some Reference) = false
 
--- what is known of local i, where a value of type t was stored in local n: a long that n was the second place of has ended, and the
+-- what is known of local i, where a value of type t was stored in local n: a long that n was the second place of has
+-- ended, and the
 -- second place of a long holds nothing by itself (2.6.1)
 abbrev pub stored : List (Option ValueType) → ValueType → ℕ → ℕ → Option ValueType
 stored old t n i =

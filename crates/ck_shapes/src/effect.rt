@@ -2,9 +2,9 @@
 use crate::shape::ValueType;
 use jv_list::List;
 
-/// A move of words on the stack, of which a long has two that are never parted (JVM Specification SE 8, 2.11.5): so many words on
-/// top are taken off, and so many under them; then the words of the top are put, where `puts_below`; then those from under them;
-/// and then those of the top, where `puts_above`.
+/// A move of words on the stack, of which a long has two that are never parted (JVM Specification SE 8, 2.11.5): so
+/// many words on top are taken off, and so many under them; then the words of the top are put, where `puts_below`; then
+/// those from under them; and then those of the top, where `puts_above`.
 #[derive(Clone, Copy, Debug, PartialEq, Eq)]
 pub struct Move {
     pub top: usize,
@@ -13,8 +13,8 @@ pub struct Move {
     pub puts_above: bool,
 }
 
-/// What an instruction does to the shape of its frame (JVM Specification SE 8, 6.5, "Operand Stack"). A number is an index of
-/// a local.
+/// What an instruction does to the shape of its frame (JVM Specification SE 8, 6.5, "Operand Stack"). A number is an
+/// index of a local.
 #[derive(Debug, Drop)]
 pub enum Effect {
     /// It moves words on the stack.

@@ -1,5 +1,5 @@
 // The search for shapes: what is known of each pc becomes less, until each instruction leads to shapes that stand.
-ghost use Rattle.std.specs.Prelude.{◌≡◌, ◌≤◌, ◌++◌, ◌∷◌, [], ℕ, IsTrue, IsFalse, IfOk, MatchOption, Contains, length, option_copied};
+ghost use Rattle.std.specs.Prelude.{◌≡◌, ◌≤◌, ◌++◌, ◌∷◌, [], ℕ, IsTrue, IfOk, Contains, length, option_copied};
 ghost use Rattle.ck_shapes.specs.Rules.{shape_at, IsLed, MeetsRules, GivenShapes};
 ghost use Rattle.ck_shapes.specs.Calls.Places.{ArePlaces};
 ghost use Rattle.ck_shapes.specs.Calls.Search.{IsMeeting, Leads, Stand, AreBelow, CanStand, IsSound, Weakens};
@@ -84,8 +84,9 @@ fn lead_all(
 ) -> Mem<bool>
     requires { length shape.now.locals ≤ limits.max_locals }
     ensures stand { IfOk result (λ b. IsTrue b → Stand limits known.old pcs.now shape.now known.new) }
-    ensures below { IfOk result (λ b. (all : GivenShapes) → CanStand limits (length known.old.shapes) all → AreBelow known.old.shapes all
-        → ((pc : ℕ) → Contains pcs.now pc → IsLed all shape.now pc) → IsTrue b × AreBelow known.new.shapes all) }
+    ensures below { IfOk result (λ b. (all : GivenShapes) → CanStand limits (length known.old.shapes) all
+        → AreBelow known.old.shapes all → ((pc : ℕ) → Contains pcs.now pc → IsLed all shape.now pc)
+        → IsTrue b × AreBelow known.new.shapes all) }
 {
     for pc in pcs {
         if !lead(alloc, limits, known, *pc, shape)? {
@@ -118,7 +119,8 @@ pub(crate) fn follow(
     requires sound { IsSound flow.now known.old.shapes (known.old.waiting ++ pc ∷ []) }
     ensures sound { IfOk result (λ b. IsTrue b → IsSound flow.now known.new.shapes known.new.waiting) }
     ensures weakens { IfOk result (λ b. IsTrue b → Weakens flow.now.limits known.old known.new) }
-    ensures below { IfOk result (λ b. (all : GivenShapes) → MeetsRules flow.now all → AreBelow known.old.shapes all → IsTrue b × AreBelow known.new.shapes all) }
+    ensures below { IfOk result (λ b. (all : GivenShapes) → MeetsRules flow.now all
+        → AreBelow known.old.shapes all → IsTrue b × AreBelow known.new.shapes all) }
 {
     let Some(shape) = shape_of(&known.shapes, pc) else {
         return Ok(true);

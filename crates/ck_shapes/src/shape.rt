@@ -26,9 +26,9 @@ impl ValueType {
     }
 }
 
-/// What is known of a frame where an instruction begins (JVM Specification SE 8, 4.10.1.2). A long stands at the first of
-/// its two locals, and nothing at the second; behind the end of the list no local is known. The stack's top is last, and a
-/// long is one value there.
+/// What is known of a frame where an instruction begins (JVM Specification SE 8, 4.10.1.2). A long stands at the first
+/// of its two locals, and nothing at the second; behind the end of the list no local is known. The stack's top is last,
+/// and a long is one value there.
 #[derive(Debug, Drop)]
 pub struct Shape {
     pub locals: List<Option<ValueType>>,

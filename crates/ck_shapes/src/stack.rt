@@ -23,7 +23,8 @@ pub(crate) fn has_words(stack: &[ValueType], max: u16) -> bool
     true
 }
 
-/// How many values of a stack are below so many words on top. None where a long would be parted, or there are not so many.
+/// How many values of a stack are below so many words on top. None where a long would be parted, or there are not so
+/// many.
 fn below(stack: &[ValueType], count: usize) -> Option<usize>
     ensures found { IfSome result (λ k. (k ≤ length stack.now) × (words (drop k stack.now) ≡ count)) }
     ensures only { (k : ℕ) → k ≤ length stack.now → words (drop k stack.now) ≡ count → result ≡ Some k }

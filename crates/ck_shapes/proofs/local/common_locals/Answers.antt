@@ -7,8 +7,8 @@ use Rattle.ck_shapes.proofs.local.common_locals.Goals as goal
 
 pub loop-at-preserved : goal.loop-at-preserved
 loop-at-preserved c =
-    table_push (λ i. common (local_at c.args.left.now i) (local_at c.args.right.now i)) c.loop-at.at c.loop-at.both.items
-    c.push.new.self.items c.common.result c.loop-at.invariant c.in_ok-push.ensures.items
+    table_push (λ i. common (local_at c.args.left.now i) (local_at c.args.right.now i)) c.loop-at.at
+    c.loop-at.both.items c.push.new.self.items c.common.result c.loop-at.invariant c.in_ok-push.ensures.items
     (c.common.ensures ∙ ap (λ (x : Option ValueType). common x c.local_of-in-loop-at.result) c.local_of.ensures
     ∙ ap (common (local_at c.args.left.now c.loop-at.at)) c.local_of-in-loop-at.ensures)
 

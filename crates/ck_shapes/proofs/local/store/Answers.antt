@@ -14,5 +14,6 @@ returns-clause-stored c i =
     ap (λ (l : Locals). local_at l i) c.from_vec.ensures
     ∙ table_whole (stored c.args.locals.now c.args.of c.from-index.result) c.loop-at.at c.loop-at.new.items
     c.loop-at.invariant
-    (λ j le. stored_past c.args.locals.now c.args.of c.from-index.result j (omega (arith, le, c.max-count.ensures)) (omega (arith, le, c.max-count.ensures))) i
+    (λ j le. stored_past c.args.locals.now c.args.of c.from-index.result j
+    (omega (arith, le, c.max-count.ensures)) (omega (arith, le, c.max-count.ensures))) i
     ∙ ap (λ (n : ℕ). stored c.args.locals.now c.args.of n i) c.from-index.ensures

@@ -34,8 +34,8 @@ returns-then-not-branch-clause-below c all rules below =
     let way = c.in-Some-2.way in
     let is = MatchOption-at_some (HasNoWay flow c.args.pc shape) (IsWay flow c.args.pc shape) way c.in-Some-2.is
     c.in_ok-way.ensures.way in
-    let can = rules_can flow c.args.places.now (length c.args.known.now.shapes) all c.requires.places c.requires.long rules
-    in
+    let can = rules_can flow c.args.places.now (length c.args.known.now.shapes) all c.requires.places
+    c.requires.long rules in
     let led = below c.args.pc shape (sym c.in-Some.ensures) in
     let said = c.in_ok-lead_all.ensures.below all can below
     (λ to h. all_nexts flow c.args.known.now c.args.known.now c.args.known.now c.args.pc shape way is all rules led to

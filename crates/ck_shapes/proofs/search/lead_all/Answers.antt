@@ -23,8 +23,8 @@ loop-pc-preserved c =
     record {
       stand = stand_more c.args.limits c.args.known.now c.loop-pc.known c.lead.new.known pcs c.loop-pc.pc-index pc 0
           c.args.shape.now c.loop-pc-test.true refl c.loop-pc.invariant.stand
-          (lead_stands c.args.limits c.loop-pc.known pc c.args.shape.now c.lead.new.known c.in_ok-lead.field-0 c.requires
-          c.in_ok-lead.ensures c.if-not-branch.false);
+          (lead_stands c.args.limits c.loop-pc.known pc c.args.shape.now c.lead.new.known c.in_ok-lead.field-0
+          c.requires c.in_ok-lead.ensures c.if-not-branch.false);
       below = λ all can below led.
           let here : CanStand c.args.limits (length c.loop-pc.known.shapes) all =
           subst (λ (n : ℕ). CanStand c.args.limits n all) (sym c.loop-pc.invariant.stand.weakens.long) can in

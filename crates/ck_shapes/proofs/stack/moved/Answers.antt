@@ -8,7 +8,8 @@ use Rattle.ck_shapes.proofs.stack.moved.Goals as goal
 pub returns-in_default : goal.returns-in_default
 returns-in_default c new m =
     let s = c.args.stack.now in
-    none-some (length m.lower) (c.in_default.ensures.only (length m.lower) (cut_within s c.args.how.top m.lower m.top m.above)
+    none-some (length m.lower) (c.in_default.ensures.only (length m.lower)
+    (cut_within s c.args.how.top m.lower m.top m.above)
     (cut_words s c.args.how.top m.lower m.top m.above))
 
 pub returns-in_default-below : goal.returns-in_default-below

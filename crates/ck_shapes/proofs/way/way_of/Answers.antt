@@ -14,8 +14,10 @@ returns-clause-way c = record {
   action = c.in-Some-action.action;
   is = ap (λ (l : List Step). step_at l c.args.pc) (sym c.as_slice.ensures) ∙ sym c.in-Some.ensures;
   acts = c.in-Some-action.is;
-  applies = MatchOption-at_some ((new : Shape) → Applies c.args.flow.now.limits c.in-Some-action.action.effect c.args.shape.now new → ⊥)
-      (λ new. Applies c.args.flow.now.limits c.in-Some-action.action.effect c.args.shape.now new) c.in-Some-2.after c.in-Some-2.is
+  applies = MatchOption-at_some
+      ((new : Shape) → Applies c.args.flow.now.limits c.in-Some-action.action.effect c.args.shape.now new → ⊥)
+      (λ new. Applies c.args.flow.now.limits c.in-Some-action.action.effect c.args.shape.now new) c.in-Some-2.after
+      c.in-Some-2.is
       c.in_ok-after.ensures.steps;
   nexts = c.in_ok-copied.ensures ∙ c.as_slice-2.ensures;
   thrown = c.in_ok-at_handler.ensures;

@@ -13,11 +13,14 @@ returns-in_ok-stack-in-Moves-clause-steps c =
     c.with_stack.ensures
 
 pub returns-in-Loads-clause-steps : goal.returns-in-Loads-clause-steps
-returns-in-Loads-clause-steps c = subst (λ (e : Effect). Gives c.args.limits e c.args.self.now c.loaded.result) (sym c.in-Loads.is)
+returns-in-Loads-clause-steps c =
+    subst (λ (e : Effect). Gives c.args.limits e c.args.self.now c.loaded.result)
+    (sym c.in-Loads.is)
     c.loaded.ensures.steps
 
 pub returns-in-Increments-clause-steps : goal.returns-in-Increments-clause-steps
-returns-in-Increments-clause-steps c = subst (λ (e : Effect). Gives c.args.limits e c.args.self.now c.incremented.result)
+returns-in-Increments-clause-steps c =
+    subst (λ (e : Effect). Gives c.args.limits e c.args.self.now c.incremented.result)
     (sym c.in-Increments.is) c.incremented.ensures.steps
 
 pub returns-in_ok-stack-in-Replaces-clause-steps : goal.returns-in_ok-stack-in-Replaces-clause-steps
