@@ -1,7 +1,8 @@
 -- The instruction at a pc: its parts, where it ends and where it jumps to.
 use Rattle.std.proofs.lemmas.Option.{some_pair_parts, cond_some}
 use Rattle.std.proofs.lemmas.Bool.Decides.{nat_tests}
-use Rattle.std.proofs.Common.{◌+◌, length, slice_get, Option, ◌∙◌, ◌≡◌, ℕ, ◌<◌, ◌≤◌, Bool, true, false, ◌&&◌, nat_le, nat_lt}
+use Rattle.std.proofs.Common.{◌+◌, length, slice_get, Option, ◌∙◌, ◌≡◌, ℕ, ◌<◌, ◌≤◌, Bool, true, false, ◌&&◌}
+use Rattle.std.proofs.Common.{nat_le, nat_lt}
 use Rattle.std.proofs.Common.{Some, None, refl, sym, ap, arith}
 use Rattle.cf_thin.specs.declared.instr.ThinInstr.{ThinInstr}
 use Rattle.cf_thin.specs.Instr.{Found, Places, target_of, jumps_on, goes_on, standing_at, found_at, instr_at}

@@ -31,12 +31,15 @@ returns-clause-file c =
       structure = c.in_ok-structure.ensures.found;
       judged = c.in_ok-texts.ensures.found;
       bodies = c.in_ok-bodies.ensures.found;
-    } in
-    (bytes, fits, record {
-      file = file_of c.in_ok-structure.structure;
-      in_order = ordered;
-      content = c.in_ok-class.ensures;
-    })
+    } in (
+      bytes,
+      fits,
+      record {
+        file = file_of c.in_ok-structure.structure;
+        in_order = ordered;
+        content = c.in_ok-class.ensures;
+      },
+    )
 
 pub returns-in_err-structure-clause-outside : goal.returns-in_err-structure-clause-outside
 returns-in_err-structure-clause-outside c =
