@@ -1,0 +1,12 @@
+pub mod ListLemmas
+pub mod WalkLemmas
+pub mod UnderWay
+pub mod StepLemmas
+pub mod MeasureLemmas
+pub mod IndexLemmas
+pub mod KnownLemmas
+pub mod MarkLemmas
+pub mod FrameLemmas
+pub mod ClimbLemmas
+pub mod SubtypeLemmas
+pub mod EndLemmas

@@ -1,0 +1,5 @@
+-- What private functions ask for and ensure.
+pub mod Index
+pub mod Steps
+pub mod Walking
+pub mod Shapes

@@ -1,0 +1,33 @@
+-- What holds of the definitions.
+use Rattle.std.specs.Prelude.{◌≡◌, ℕ, true, false, List, ◌⊎◌}
+use Rattle.cf_class.specs.declared.class_file.ClassFile.{ClassFile}
+use Rattle.jv_base.specs.Descriptor.{FieldType}
+use Rattle.hi_tree.specs.Walks.{Climb, IsAbove, IsClean, Stop, Stops, found}
+use Rattle.hi_tree.specs.Subtypes.{IsSubtype}
+
+-- a walk stops at one place at most
+abbrev pub OneStop : Type 0
+OneStop = (w : Climb) (name : List ℕ) (s t : Stop) → Stops w name s → Stops w name t → s ≡ t
+
+-- a walk that is clean stops nowhere
+abbrev pub CleanStopsNowhere : Type 0
+CleanStopsNowhere = (w : Climb) (name : List ℕ) (s : Stop) → IsClean w name → Stops w name s → ⊥
+
+-- what is found is sought and known, and is the class itself or above it
+abbrev pub FoundIsAbove : Type 0
+FoundIsAbove = (w : Climb) (name found_name : List ℕ) → Stops w name (found found_name)
+    → (w.sought found_name ≡ true) × (w.known found_name ≡ true) × ((name ≡ found_name)
+    ⊎ IsAbove w.supers name found_name)
+
+-- in a clean walk each class is known and not sought, and none is above itself
+abbrev pub CleanIsWhole : Type 0
+CleanIsWhole = (w : Climb) (name above : List ℕ) → IsClean w name → (name ≡ above) ⊎ IsAbove w.supers name above
+    → (w.known above ≡ true) × (w.sought above ≡ false) × (IsAbove w.supers above above → ⊥)
+
+-- each type is a subtype of itself, and of the supertypes of its supertypes
+abbrev pub SubtypeReflexive : Type 0
+SubtypeReflexive = (classes : List ClassFile) (a : FieldType) → IsSubtype classes a a
+
+abbrev pub SubtypeTransitive : Type 0
+SubtypeTransitive = (classes : List ClassFile) (a b c : FieldType) → IsSubtype classes a b
+    → IsSubtype classes b c → IsSubtype classes a c

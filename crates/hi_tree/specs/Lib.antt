@@ -1,0 +1,10 @@
+pub mod Classes
+pub mod Walks
+pub mod Supers
+pub mod Members
+pub mod Sought
+pub mod Faults
+pub mod Fields
+pub mod Subtypes
+pub mod Laws
+pub mod Calls
