@@ -1,0 +1,4 @@
+pub mod NameLemmas
+pub mod DescriptorLemmas
+pub mod OpcodeLemmas
+pub mod FactLemmas

@@ -1,0 +1,10 @@
+//! Tests of the public calls of the loading layer: the facts of methods. What they expect comes from the Java Virtual
+//! Machine Specification and from javac and javap.
+#![tactic(auto)]
+
+#[cfg(test)]
+mod cases;
+#[cfg(test)]
+mod facts;
+#[cfg(test)]
+mod tables;
