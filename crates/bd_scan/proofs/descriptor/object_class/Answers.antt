@@ -26,7 +26,7 @@ returns-in-Some-split_once c =
     let rest : List ℕ = c.in-Some-split_once.field-0-1.now in
     let begins = strip_prefix_char 76 text (Some c.in-Some.class) c.in-Some.ensures.cases (omega arith) in
     let parts = split_parts 59 class (Some (c.in-Some-split_once.name, c.in-Some-split_once.field-0-1))
-        c.in-Some-split_once.ensures.cases (omega arith) in
+    c.in-Some-split_once.ensures.cases (omega arith) in
     class_is text class begins name
     (ap before_mark parts.0 ∙ before name rest (All-from_get_or NotMark name 0 parts.1))
 
