@@ -169,7 +169,7 @@ const DAMAGES: &str = "
     no | 181-182:09 155-156:1d | an attribute of the code past its end
     no | 185-185:000900000000 148-150:0002 | a second Code attribute
     thin | 185-185:00080000000107 148-150:0002 | another attribute
-    thin | 83-99:050000000000000000 8-10:000e | a Long that has room for its second index
+    no | 83-99:050000000000000000 8-10:000e | a Long where the name of an attribute was
 ";
 
 #[test]
