@@ -14,7 +14,8 @@ use Rattle.cn_clauses.specs.Literals.{lit_value}
 use Rattle.bb_gates.specs.Growth.{AreOf}
 use Rattle.bb_arith.specs.Words.{number_of}
 use Rattle.jv_list.specs.Numbers.{bit_number}
-use Rattle.bb_arith.proofs.NumberLemmas.{double_power, number_below}
+use Rattle.jv_list.proofs.NumberLemmas.{double_power}
+use Rattle.bb_arith.proofs.NumberLemmas.{number_below}
 use Rattle.bb_arith.proofs.WordLemmas.{IsOf}
 
 joined_bit : (b n p m : ℕ) → b + 2 * (n + p * m) ≡ (b + 2 * n) + (2 * p) * m

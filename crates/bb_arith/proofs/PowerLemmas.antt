@@ -7,7 +7,7 @@ use Rattle.std.proofs.Math.Nat.{pow-le-pow_right, mod-lt}
 use Rattle.std.proofs.Math.Pow.{pow-lt}
 use Rattle.std.proofs.lemmas.Bool.{eqb-true, cases_lt}
 use Rattle.std.proofs.lemmas.Nat.{ones_cat, zero_from_ones, shr_split}
-use Rattle.bb_arith.proofs.NumberLemmas.{double_power}
+use Rattle.jv_list.proofs.NumberLemmas.{double_power}
 
 pub record IsPower (n : ℕ) : Type 0 where
   pub exponent : ℕ

@@ -14,7 +14,8 @@ use Rattle.bb_arith.specs.Words.{number_of, signed_of}
 use Rattle.jv_list.specs.Numbers.{bit_number, wrapped_number}
 use Rattle.jv_list.specs.Numbers.{quotient_of, remainder_of}
 use Rattle.bb_arith.specs.Calls.Division.{turned_number, turned_or_zero}
-use Rattle.bb_arith.proofs.NumberLemmas.{double_next, number_below}
+use Rattle.jv_list.proofs.NumberLemmas.{double_next}
+use Rattle.bb_arith.proofs.NumberLemmas.{number_below}
 use Rattle.bb_arith.proofs.SignLemmas.{as_signed, lower_half, upper_half, number_whole, signed_whole, take_below}
 
 -- a magnitude with its sign

@@ -10,7 +10,8 @@ use Rattle.cn_clauses.specs.Literals.{lit_value}
 use Rattle.cn_clauses.specs.Extension.{IsGate}
 use Rattle.bb_arith.specs.Words.{number_of, signed_of}
 use Rattle.jv_list.specs.Numbers.{bit_number}
-use Rattle.bb_arith.proofs.NumberLemmas.{double_next, number_below, same_order}
+use Rattle.jv_list.proofs.NumberLemmas.{double_next}
+use Rattle.bb_arith.proofs.NumberLemmas.{number_below, same_order}
 use Rattle.bb_arith.proofs.WordLemmas.{number_take, set_number}
 
 -- a number below q as a signed one

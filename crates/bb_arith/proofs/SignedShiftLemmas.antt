@@ -9,7 +9,7 @@ use Rattle.cn_clauses.specs.Literals.{lit_value}
 use Rattle.bb_arith.specs.Words.{number_of, signed_of}
 use Rattle.jv_list.specs.Numbers.{bit_number, wrapped_number}
 use Rattle.bb_arith.specs.Calls.Moves.{moved_number}
-use Rattle.bb_arith.proofs.NumberLemmas.{double_next}
+use Rattle.jv_list.proofs.NumberLemmas.{double_next}
 use Rattle.bb_arith.proofs.SignLemmas.{as_signed, lower_half, upper_half, number_whole, signed_whole, take_below}
 
 shifted_positive : (k q : ℕ) → int_shr (pos k) q ≡ pos (k / 2 ^ q)

@@ -14,7 +14,8 @@ use Rattle.bb_gates.specs.Growth.{AreOf, Adds, AddsNoGate, AddsNothing, AddsTrut
 use Rattle.bb_arith.specs.Words.{number_of, IsWordGate}
 use Rattle.jv_list.specs.Numbers.{bit_number}
 use Rattle.bb_arith.specs.Sums.{IsSumSoFar}
-use Rattle.bb_arith.proofs.NumberLemmas.{double_next, number_below}
+use Rattle.jv_list.proofs.NumberLemmas.{double_next}
+use Rattle.bb_arith.proofs.NumberLemmas.{number_below}
 use Rattle.bb_arith.proofs.WordLemmas.{number_take, set_number, word_grown, word_push}
 
 -- one more column of a sum

@@ -12,7 +12,8 @@ use Rattle.cn_clauses.specs.Laws.{OppositeValue, OppositeVariable}
 use Rattle.bb_gates.specs.Growth.{AreOf}
 use Rattle.bb_arith.specs.Words.{number_of}
 use Rattle.jv_list.specs.Numbers.{bit_number}
-use Rattle.bb_arith.proofs.NumberLemmas.{number_append, double_power}
+use Rattle.jv_list.proofs.NumberLemmas.{double_power}
+use Rattle.bb_arith.proofs.NumberLemmas.{number_append}
 use Rattle.bb_arith.proofs.OrderLemmas.{take_next}
 
 abbrev pub IsOf : Formula → Lit → Type 0

@@ -7,7 +7,8 @@ use Rattle.cn_clauses.specs.Satisfaction.{Agrees, IsClauseBelow}
 use Rattle.cn_clauses.specs.Laws.{ValueAgrees}
 use Rattle.bb_arith.specs.Words.{number_of}
 use Rattle.jv_list.specs.Numbers.{bit_number}
-use Rattle.bb_terms.proofs.NumberLemmas.{bit_rest, double_power}
+use Rattle.jv_list.proofs.NumberLemmas.{double_power}
+use Rattle.bb_terms.proofs.NumberLemmas.{bit_rest}
 
 -- assignments that agree give a word one number
 pub number_agrees : ValueAgrees → (n : ℕ) (a b : ℕ → Bool) (lits : List Lit) → Agrees n a b → IsClauseBelow n lits

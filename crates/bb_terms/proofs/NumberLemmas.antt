@@ -10,42 +10,18 @@ use Rattle.cn_clauses.specs.declared.lit.Lit.{Lit}
 use Rattle.cn_clauses.specs.Literals.{lit_value}
 use Rattle.bb_arith.specs.Words.{number_of}
 use Rattle.jv_list.specs.Numbers.{bit_number}
+use Rattle.jv_list.proofs.NumberLemmas.{double_power, word_append, word_below}
 use Rattle.bb_terms.specs.declared.bits.BitOp.{BitOp}
 use Rattle.bb_terms.specs.declared.bits.BitOp.TheVariants.{And, Or, Xor}
 use Rattle.bb_terms.specs.Calls.Words.{joined_bits, bits_number}
 
--- twice a number and a bit, where a bit stands above
-shifted : (b n p : ℕ) (x : Bool) → b + 2 * (n + p * bit_number x) ≡ (b + 2 * n) + (2 * p) * bit_number x
-shifted b n p true = omega arith
-shifted b n p false = omega arith
-
-pub double_power : (n : ℕ) → 2 * 2 ^ n ≡ 2 ^ suc n
-double_power n = omega arith
-
-pub double_next : (n : ℕ) → 2 ^ (n + 1) ≡ 2 * 2 ^ n
-double_next n = let next : n + 1 ≡ suc n = omega arith in ap (λ (m : ℕ). 2 ^ m) next ∙ sym (double_power n)
-
-one_bit : (b : ℕ) → b + 2 * 0 ≡ 0 + 1 * b
-one_bit b = omega arith
-
 -- a word with one more bit at its upper end
 pub number_append : (w : ℕ → Bool) (lits : List Lit) (lit : Lit)
     → number_of w (lits ++ lit ∷ []) ≡ number_of w lits + 2 ^ length lits * bit_number (lit_value w lit)
-number_append w [] lit = one_bit (bit_number (lit_value w lit))
-number_append w (x ∷ lits) lit =
-    ap (λ (n : ℕ). bit_number (lit_value w x) + 2 * n) (number_append w lits lit)
-    ∙ shifted (bit_number (lit_value w x)) (number_of w lits) (2 ^ length lits) (lit_value w lit)
-    ∙ ap (λ (p : ℕ). number_of w (x ∷ lits) + p * bit_number (lit_value w lit)) (double_power (length lits))
-
-bit_below : (x : Bool) (n p : ℕ) → n < p → bit_number x + 2 * n < 2 * p
-bit_below true n p lt = omega (arith, lt)
-bit_below false n p lt = omega (arith, lt)
+number_append w lits lit = word_append (lit_value w) (number_of w) refl (λ x xs. refl) lits lit
 
 pub number_below : (w : ℕ → Bool) (lits : List Lit) → number_of w lits < 2 ^ length lits
-number_below w [] = let one : 0 < 1 = omega arith in one
-number_below w (lit ∷ lits) =
-    subst (λ (p : ℕ). number_of w (lit ∷ lits) < p) (double_power (length lits))
-    (bit_below (lit_value w lit) (number_of w lits) (2 ^ length lits) (number_below w lits))
+number_below w lits = word_below (lit_value w) (number_of w) refl (λ x xs. refl) lits
 
 pub below_width : (w : ℕ → Bool) (lits : List Lit) (n : ℕ) → length lits ≡ n → number_of w lits < 2 ^ n
 below_width w lits n wide = subst (λ (m : ℕ). number_of w lits < 2 ^ m) wide (number_below w lits)

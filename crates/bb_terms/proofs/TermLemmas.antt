@@ -27,7 +27,8 @@ use Rattle.tm_terms.specs.declared.sort.Sort.{Sort}
 use Rattle.tm_terms.specs.declared.sort.Sort.TheVariants.{Bool as Truth, W16, W32, W64}
 use Rattle.tm_terms.specs.Terms.{term_sort, term_value}
 use Rattle.tm_terms.specs.Laws.{ValueBelow}
-use Rattle.bb_terms.proofs.NumberLemmas.{reduced, number_low, number_take, number_below, below_width, double_power}
+use Rattle.jv_list.proofs.NumberLemmas.{double_power}
+use Rattle.bb_terms.proofs.NumberLemmas.{reduced, number_low, number_take, number_below, below_width}
 use Rattle.bb_terms.proofs.NumberLemmas.{bit_rest}
 use Rattle.bb_terms.proofs.WordLemmas.{lit_within}
 

@@ -20,7 +20,8 @@ use Rattle.jv_list.specs.Numbers.{bit_number}
 use Rattle.bb_terms.specs.declared.bits.BitOp.{BitOp}
 use Rattle.bb_terms.specs.declared.bits.BitOp.TheVariants.{Xor}
 use Rattle.bb_terms.specs.Calls.Words.{IsWord, joined_bits, bits_number, chosen_number}
-use Rattle.bb_terms.proofs.NumberLemmas.{number_append, number_below, number_take, bits_next, double_power}
+use Rattle.jv_list.proofs.NumberLemmas.{double_power}
+use Rattle.bb_terms.proofs.NumberLemmas.{number_append, number_below, number_take, bits_next}
 
 abbrev pub IsOf : Formula → Lit → Type 0
 IsOf formula lit = variable_of lit < variables_of formula

@@ -2,6 +2,7 @@
 use Rattle.std.proofs.Common.{ℕ, ◌+◌, List, [], ◌∷◌, ◌++◌, length, map, refl}
 use Rattle.std.specs.List.{flat_map, AllByRecursion}
 use Rattle.jv_list.proofs.FirstLemmas.{all_front}
+use Rattle.jv_list.specs.Places.{each_place}
 use Rattle.cf_pool.specs.declared.entry.PoolEntry.{PoolEntry}
 use Rattle.cf_pool.specs.Spelling.{entry_text}
 use Rattle.cf_structure.specs.Raw.{RawSkipped, RawCode, RawBody, constant, code, skipped, RawAttribute, RawMember}
@@ -13,7 +14,7 @@ use Rattle.cf_judge.specs.declared.member.MemberKind.{MemberKind}
 use Rattle.cf_judge.specs.declared.member.MemberKind.TheVariants as kinds
 use Rattle.cf_judge.specs.Demands.{Demand, attribute_demands, attribute_name, attributes_place, body_demands}
 use Rattle.cf_judge.specs.Demands.{class_demands, code_demands, demand, desc_form, entry_demands, fields_place, finds}
-use Rattle.cf_judge.specs.Demands.{flags_demands, header_demands, index_demands, many_demands, member_demands}
+use Rattle.cf_judge.specs.Demands.{flags_demands, header_demands, index_demands, member_demands}
 use Rattle.cf_judge.specs.Demands.{members_demands, methods_place, name_form, named_demands, row_demands, rows_place}
 use Rattle.cf_judge.specs.Demands.{skipped_demands}
 use Rattle.cf_judge.specs.Judged.{IsJudged}
@@ -52,7 +53,7 @@ module _ (pool : List PoolEntry) (form_law : FormDecided) where
   code_there : (place : ℕ) (c : RawCode) → AreKept pool (code_demands place c) → IsDecoded c
       → HasContent (IsCodeContent pool) c
   code_there place c h decoded =
-      let rows : List Demand = many_demands row_demands row_text (rows_place place c) c.rows in
+      let rows : List Demand = each_place row_demands row_text (rows_place place c) c.rows in
       let others = some_beside (IsSkippedContent pool) c.attributes
       (each_kept pool (λ (earlier : List RawSkipped). skipped_demands) skipped_text
       (HasContent (IsSkippedContent pool)) (λ earlier. skipped_there) [] _ c.attributes (kept_behind pool rows _ h))
@@ -88,7 +89,7 @@ module _ (pool : List PoolEntry) (form_law : FormDecided) where
       )
 
   attributes_there : (desc place : ℕ) (xs : List RawAttribute)
-      → AreKept pool (many_demands (attribute_demands desc) attribute_text place xs)
+      → AreKept pool (each_place (attribute_demands desc) attribute_text place xs)
       → AreDecoded (flat_map attribute_codes xs)
       → HaveContent (IsAttributeContent pool) xs
   attributes_there desc place xs h decoded =
@@ -109,7 +110,7 @@ module _ (pool : List PoolEntry) (form_law : FormDecided) where
       let desc_demand : Demand =
       demand (place + 2 + 2) (finds (Formed (desc_form kind)) m.desc) in
       let rest : List Demand =
-      many_demands (attribute_demands m.desc) attribute_text (place + 2 + 6) m.attributes in
+      each_place (attribute_demands m.desc) attribute_text (place + 2 + 6) m.attributes in
       let name : IsNamed m.name = text_named pool form_law (name_form kind) m.name
       (first_kept pool name_demand (desc_demand ∷ rest) named) in
       let desc : IsNamed m.desc = text_named pool form_law (desc_form kind) m.desc
@@ -138,10 +139,10 @@ content_there form_law plain file judged decoded =
     let pool : List PoolEntry = file.pool in
     let place : ℕ = 10 + length (flat_map entry_text pool) in
     let class = file.class in
-    let pool_demands : List Demand = many_demands entry_demands entry_text 10 pool in
+    let pool_demands : List Demand = each_place entry_demands entry_text 10 pool in
     let header : List Demand = header_demands place class in
     let interfaces : List Demand =
-    many_demands index_demands two (place + 8) class.interfaces in
+    each_place index_demands two (place + 8) class.interfaces in
     let this_demand : Demand = demand (place + 2) (finds PlainClass class.this_class) in
     let super_demand : Demand = demand (place + 2 + 2) (finds PlainClass class.super_class) in
     let fields : List Demand =
@@ -149,7 +150,7 @@ content_there form_law plain file judged decoded =
     let methods : List Demand =
     members_demands kinds.Method (methods_place place class) class.methods in
     let attributes : List Demand =
-    many_demands (attribute_demands 0) attribute_text (attributes_place place class) class.attributes in
+    each_place (attribute_demands 0) attribute_text (attributes_place place class) class.attributes in
     let all = judged_kept file judged in
     let entries = entries_named pool form_law 10 (kept_front pool pool_demands (class_demands place class) all) in
     let of_class = kept_behind pool pool_demands (class_demands place class) all in

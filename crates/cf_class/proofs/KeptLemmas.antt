@@ -5,6 +5,7 @@ use Rattle.std.proofs.lemmas.List.Elements.{Contains-append_left, Contains-appen
 use Rattle.jv_list.proofs.ElementLemmas.{at_contains}
 use Rattle.jv_list.proofs.FirstLemmas.{all_member}
 use Rattle.jv_list.proofs.MemberLemmas.{first_member}
+use Rattle.jv_list.specs.Places.{each_at}
 use Rattle.cf_pool.specs.declared.entry.PoolEntry.{PoolEntry}
 use Rattle.cf_pool.specs.declared.entry.PoolEntry.TheVariants.{Class}
 use Rattle.cf_pool.specs.declared.fault.What.{What}
@@ -15,7 +16,7 @@ use Rattle.cf_judge.specs.declared.form.Form.{Form}
 use Rattle.cf_judge.specs.declared.form.Form.TheVariants.{ClassOrArray}
 use Rattle.cf_judge.specs.declared.index.Wanted.TheVariants.{Formed, PlainClass}
 use Rattle.cf_judge.specs.Indices.{IsWrongIndex}
-use Rattle.cf_judge.specs.Demands.{Demand, each_demands, entry_demands, demands}
+use Rattle.cf_judge.specs.Demands.{Demand, entry_demands, demands}
 use Rattle.cf_judge.specs.Judged.{Breaks, IsJudged}
 use Rattle.cf_judge.specs.Laws.{FormDecided, PlainClassDecided}
 use Rattle.cf_class.specs.Content.{IsTextNamed, IsClassNamed}
@@ -43,12 +44,12 @@ module _ (pool : List PoolEntry) where
   -- of structures one after the other
   pub each_kept : {A : Type 0} (one : List A → ℕ → A → List Demand) (text : A → List ℕ) (P : A → Type 0)
       (each : (earlier : List A) (place : ℕ) (x : A) → AreKept pool (one earlier place x) → P x)
-      (earlier : List A) (place : ℕ) (xs : List A) → AreKept pool (each_demands one text earlier place xs)
+      (earlier : List A) (place : ℕ) (xs : List A) → AreKept pool (each_at one text earlier place xs)
       → AllByRecursion P xs
-  unfolding each_demands
+  unfolding each_at
   each_kept one text P each earlier place [] h = tt
   each_kept one text P each earlier place (x ∷ xs) h =
-      let others : List Demand = each_demands one text (earlier ++ x ∷ []) (place + length (text x)) xs in (
+      let others : List Demand = each_at one text (earlier ++ x ∷ []) (place + length (text x)) xs in (
         each earlier place x (kept_front (one earlier place x) others h),
         each_kept one text P each (earlier ++ x ∷ []) (place + length (text x)) xs
             (kept_behind (one earlier place x) others h),
@@ -80,7 +81,7 @@ module _ (pool : List PoolEntry) where
     entry_named place e h = tt
 
     pub entries_named : (place : ℕ)
-        → AreKept pool (each_demands (λ (earlier : List PoolEntry). entry_demands) entry_text [] place pool)
+        → AreKept pool (each_at (λ (earlier : List PoolEntry). entry_demands) entry_text [] place pool)
         → AllByRecursion IsEntryNamed pool
     entries_named place h =
         each_kept (λ (earlier : List PoolEntry). entry_demands) entry_text IsEntryNamed (λ earlier. entry_named) []

@@ -1,6 +1,7 @@
 -- The parts of a class file, each behind the one before it.
 use Rattle.std.proofs.Common.{◌≡◌, ℕ, ◌+◌, List, ◌++◌, length, Result, Ok, Err, refl, arith, length-append}
 use Rattle.std.specs.List.{flat_map}
+use Rattle.jv_list.specs.Places.{each_place}
 use Rattle.cf_pool.specs.declared.entry.PoolEntry.{PoolEntry}
 use Rattle.cf_pool.specs.Spelling.{entry_text}
 use Rattle.cf_structure.specs.declared.fault.ClassFault.{ClassFault}
@@ -9,7 +10,7 @@ use Rattle.cf_structure.specs.Spelled.{two, attribute_text, member_text, class_t
 use Rattle.cf_structure.specs.ClassFile.{Names}
 use Rattle.cf_judge.specs.declared.index.Wanted.TheVariants.{PlainClass}
 use Rattle.cf_judge.specs.declared.member.MemberKind.TheVariants.{Field, Method}
-use Rattle.cf_judge.specs.Demands.{Demand, many_demands, pair_demands, index_demands, attribute_demands}
+use Rattle.cf_judge.specs.Demands.{Demand, pair_demands, index_demands, attribute_demands}
 use Rattle.cf_judge.specs.Demands.{members_demands, header_demands, class_demands, fields_place, methods_place}
 use Rattle.cf_judge.specs.Demands.{attributes_place, entry_demands, demands}
 use Rattle.cf_judge.specs.Calls.Tells.{AreKept, IsFirstBroken, Tells}
@@ -21,7 +22,7 @@ module _ (pool : List PoolEntry) (place : ℕ) (c : RawClass) where
   indices = pair_demands (place + 2) PlainClass c.this_class PlainClass c.super_class
 
   abbrev interfaces : ℕ → List Demand
-  interfaces p = many_demands index_demands two p c.interfaces
+  interfaces p = each_place index_demands two p c.interfaces
 
   abbrev interfaces_size : ℕ
   interfaces_size = length (flat_map two c.interfaces)
@@ -51,7 +52,7 @@ module _ (pool : List PoolEntry) (place : ℕ) (c : RawClass) where
   methods_size = length (flat_map member_text c.methods)
 
   abbrev attributes : ℕ → List Demand
-  attributes p = many_demands (attribute_demands 0) attribute_text p c.attributes
+  attributes p = each_place (attribute_demands 0) attribute_text p c.attributes
 
   abbrev attributes_size : ℕ
   attributes_size = length (flat_map attribute_text c.attributes)
@@ -125,7 +126,7 @@ module _ (pool : List PoolEntry) (place : ℕ) (c : RawClass) where
 -- a class behind the entries of its pool
 module _ (file : RawFile) where
   abbrev entries : List Demand
-  entries = many_demands entry_demands entry_text 10 file.pool
+  entries = each_place entry_demands entry_text 10 file.pool
 
   abbrev entries_end : ℕ
   entries_end = 10 + length (flat_map entry_text file.pool)

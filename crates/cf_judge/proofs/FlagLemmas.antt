@@ -1,5 +1,6 @@
 -- The flags of members.
 use Rattle.std.proofs.Common.{ℕ, List, [], ◌∷◌, Result, refl, ap, arith, inl}
+use Rattle.jv_list.specs.Firsts.{FirstBreaks}
 use Rattle.cf_pool.specs.declared.entry.PoolEntry.{PoolEntry}
 use Rattle.cf_pool.specs.declared.fault.What.TheVariants as words
 use Rattle.cf_structure.specs.declared.fault.ClassFault.{ClassFault}
@@ -29,7 +30,7 @@ module _ (pool : List PoolEntry) (earlier : List RawMember) (place : ℕ) (m : R
   -- a member with the name and the descriptor of an earlier one is the first fault of its flags
   pub second_refused : (kind : MemberKind) → IsSecond pool earlier m
       → IsFirstBroken pool (flags_demands kind earlier place m) (record { place = place; what = words.Duplicate })
-  unfolding IsFirstBroken
+  unfolding IsFirstBroken FirstBreaks
   second_refused kinds.Field second = inl (is_duplicate second)
   second_refused kinds.Method second = inl (is_duplicate second)
 
@@ -46,7 +47,7 @@ module _ (pool : List PoolEntry) (earlier : List RawMember) (place : ℕ) (m : R
 module _ (pool : List PoolEntry) (place flags codes : ℕ) where
   pub code_refused : BreaksCodeRule flags codes
       → IsFirstBroken pool (demand place (has_codes flags codes) ∷ []) (record { place = place; what = words.CodeRule })
-  unfolding IsFirstBroken
+  unfolding IsFirstBroken FirstBreaks
   code_refused breaks = inl (record {
     place_is = refl;
     breaks = (refl, breaks);

@@ -1,6 +1,7 @@
 -- The first broken demand of those that rise has the first fault.
 use Rattle.std.proofs.Common.{◌≡◌, List, [], ◌∷◌, sym, subst, inl, inr, ap, ◌∙◌, arith}
 use Rattle.std.specs.List.{Contains, AllByRecursion}
+use Rattle.jv_list.specs.Firsts.{FirstBreaks}
 use Rattle.cf_pool.specs.declared.entry.PoolEntry.{PoolEntry}
 use Rattle.cf_pool.specs.declared.fault.What.{What}
 use Rattle.cf_pool.specs.declared.fault.Fault.{Fault}
@@ -36,7 +37,7 @@ module _ (pool : List PoolEntry) where
   }
 
   is_wrong : (ds : List Demand) (fault : Fault) → IsFirstBroken pool ds fault → IsWrong pool ds fault
-  unfolding IsFirstBroken
+  unfolding IsFirstBroken FirstBreaks
   is_wrong [] fault h = absurd h
   is_wrong (d ∷ ds) fault (inl here) =
       record { broken = d; is_demanded = first_member d ds; place_is = here.place_is; breaks = here.breaks }
@@ -59,7 +60,7 @@ module _ (pool : List PoolEntry) where
 
     is_first : (ds : List Demand) → AreRising pool ds → IsFirstBroken pool ds fault → (e : Demand) → Contains ds e
         → other.place ≡ e.place → Breaks pool e.rule other.what → IsFirst fault other
-    unfolding AreRising IsFirstBroken
+    unfolding AreRising IsFirstBroken FirstBreaks
     is_first [] rising h e member at breaks = absurd h
     is_first (d ∷ ds) rising (inl here) e member at breaks = elim (member_cases d ds e member) [
       | inl same ↦

@@ -2,6 +2,7 @@
 use Rattle.std.proofs.Common.{◌≡◌, ℕ, ◌≤◌, List, [], ◌∷◌, get_or, Some, None, refl, sym, ap, ◌∙◌, inl, inr}
 use Rattle.std.proofs.Common.{◌⊎◌, arith}
 use Rattle.jv_base.specs.Laws.{FormsDecided}
+use Rattle.jv_list.specs.Firsts.{FirstBreaks}
 use Rattle.cf_pool.specs.declared.entry.PoolEntry.{PoolEntry}
 use Rattle.cf_pool.specs.declared.fault.What.{What}
 use Rattle.cf_pool.specs.declared.fault.What.TheVariants as words
@@ -29,7 +30,7 @@ module _ (law : FormsDecided) (pool : List PoolEntry) where
 
   -- some demand is the first that is broken, or all are kept
   all_demands : (ds : List Demand) → ((fault : Fault) × IsFirstBroken pool ds fault) ⊎ AreKept pool ds
-  unfolding AreKept IsFirstBroken
+  unfolding AreKept IsFirstBroken FirstBreaks
   all_demands [] = inr tt
   all_demands (d ∷ ds) = elim (one_demand d) [
     | inl broken ↦ inl (broken.0, inl broken.1)

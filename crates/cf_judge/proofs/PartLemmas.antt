@@ -2,12 +2,13 @@
 use Rattle.std.proofs.Common.{◌≡◌, ℕ, ◌+◌, List, [], ◌∷◌, length, Result, refl, subst, arith}
 use Rattle.std.proofs.Common.{length-append, add_assoc}
 use Rattle.std.specs.List.{flat_map}
+use Rattle.jv_list.specs.Places.{each_place}
 use Rattle.cf_pool.specs.declared.entry.PoolEntry.{PoolEntry}
 use Rattle.cf_structure.specs.declared.fault.ClassFault.{ClassFault}
 use Rattle.cf_structure.specs.Raw.{RawCode, RawAttribute, RawMember}
 use Rattle.cf_structure.specs.Spelled.{row_text, skipped_text, code_text, body_text, attribute_text, member_text}
 use Rattle.cf_structure.specs.ClassFile.{Names}
-use Rattle.cf_judge.specs.Demands.{Demand, many_demands, attribute_name, row_demands, skipped_demands, rows_place}
+use Rattle.cf_judge.specs.Demands.{Demand, attribute_name, row_demands, skipped_demands, rows_place}
 use Rattle.cf_judge.specs.declared.index.Wanted.TheVariants.{Formed}
 use Rattle.cf_judge.specs.declared.member.MemberKind.{MemberKind}
 use Rattle.cf_judge.specs.Demands.{code_demands, body_demands, attribute_demands, pair_demands, name_form, desc_form}
@@ -24,13 +25,13 @@ module _ (pool : List PoolEntry) where
 
   module _ (place : ℕ) (c : RawCode) where
     abbrev rows : List Demand
-    rows = many_demands row_demands row_text (rows_place place c) c.rows
+    rows = each_place row_demands row_text (rows_place place c) c.rows
 
     abbrev rows_end : ℕ
     rows_end = rows_place place c + length (flat_map row_text c.rows)
 
     abbrev others : ℕ → List Demand
-    others p = many_demands skipped_demands skipped_text p c.attributes
+    others p = each_place skipped_demands skipped_text p c.attributes
 
     abbrev others_size : ℕ
     others_size = length (flat_map skipped_text c.attributes)
@@ -71,7 +72,7 @@ module _ (pool : List PoolEntry) where
     names = pair_demands place (Formed (name_form kind)) m.name (Formed (desc_form kind)) m.desc
 
     abbrev attributes : ℕ → List Demand
-    attributes p = many_demands (attribute_demands m.desc) attribute_text p m.attributes
+    attributes p = each_place (attribute_demands m.desc) attribute_text p m.attributes
 
     abbrev attributes_size : ℕ
     attributes_size = length (flat_map attribute_text m.attributes)

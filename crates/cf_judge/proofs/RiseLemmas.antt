@@ -1,6 +1,7 @@
 -- The demands of each part of a file rise from its place up to its end.
 use Rattle.std.proofs.Common.{ℕ, ◌+◌, ◌≤◌, List, [], ◌∷◌, length, ap, arith}
 use Rattle.std.specs.List.{flat_map}
+use Rattle.jv_list.specs.Places.{each_place}
 use Rattle.cf_pool.specs.declared.entry.PoolEntry.{PoolEntry}
 use Rattle.cf_pool.specs.declared.entry.PoolEntry.TheVariants as entries
 use Rattle.cf_pool.specs.Spelling.{entry_text}
@@ -13,7 +14,7 @@ use Rattle.cf_structure.specs.Spelled.{class_text}
 use Rattle.cf_judge.specs.declared.index.Wanted.{Wanted}
 use Rattle.cf_judge.specs.declared.member.MemberKind.{MemberKind}
 use Rattle.cf_judge.specs.declared.member.MemberKind.TheVariants as kinds
-use Rattle.cf_judge.specs.Demands.{Demand, finds, pair_demands, entry_demands, many_demands, row_demands}
+use Rattle.cf_judge.specs.Demands.{Demand, finds, pair_demands, entry_demands, row_demands}
 use Rattle.cf_judge.specs.Demands.{skipped_demands}
 use Rattle.cf_judge.specs.Demands.{rows_place, code_demands, body_demands, attribute_demands, flags_demands}
 use Rattle.cf_judge.specs.Demands.{named_demands}
@@ -103,7 +104,7 @@ module _ (pool : List PoolEntry) where
 
   attributes_rise : (desc place : ℕ) (attributes : List RawAttribute)
       → Rise pool place (place + length (flat_map attribute_text attributes))
-      (many_demands (attribute_demands desc) attribute_text place attributes)
+      (each_place (attribute_demands desc) attribute_text place attributes)
   attributes_rise desc place attributes =
       each_rises pool (λ (earlier : List RawAttribute). attribute_demands desc) attribute_text (attribute_rises desc)
       [] place

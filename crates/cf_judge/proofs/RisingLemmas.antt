@@ -2,10 +2,11 @@
 use Rattle.std.proofs.Common.{◌≡◌, ℕ, ◌+◌, ◌<◌, ◌≤◌, List, [], ◌∷◌, ◌++◌, length, refl, subst, inl, inr, ◌⊎◌, arith}
 use Rattle.std.proofs.Common.{length-append}
 use Rattle.std.specs.List.{flat_map, AllByRecursion}
+use Rattle.jv_list.specs.Places.{each_at}
 use Rattle.cf_pool.specs.declared.entry.PoolEntry.{PoolEntry}
 use Rattle.cf_pool.specs.declared.fault.What.{What}
 use Rattle.cf_judge.specs.Words.{rank}
-use Rattle.cf_judge.specs.Demands.{Rule, Demand, demand, each_demands}
+use Rattle.cf_judge.specs.Demands.{Rule, Demand, demand}
 use Rattle.cf_judge.specs.Judged.{Breaks}
 
 module _ (pool : List PoolEntry) where
@@ -107,14 +108,14 @@ module _ (pool : List PoolEntry) where
   pub each_rises : {A : Type 0} (one : List A → ℕ → A → List Demand) (text : A → List ℕ)
       → ((earlier : List A) (place : ℕ) (x : A) → Rise place (place + length (text x)) (one earlier place x))
       → (earlier : List A) (place : ℕ) (xs : List A)
-      → Rise place (place + length (flat_map text xs)) (each_demands one text earlier place xs)
-  unfolding each_demands
+      → Rise place (place + length (flat_map text xs)) (each_at one text earlier place xs)
+  unfolding each_at
   each_rises one text rises earlier place [] = none_rise place (place + 0) (omega arith)
   each_rises one text rises earlier place (x ∷ xs) =
       let next : ℕ = place + length (text x) in
       let total : next + length (flat_map text xs) ≡ place + length (text x ++ flat_map text xs) =
       omega (arith, length-append (text x) (flat_map text xs)) in
-      subst (λ (end : ℕ). Rise place end (one earlier place x ++ each_demands one text (earlier ++ x ∷ []) next xs))
+      subst (λ (end : ℕ). Rise place end (one earlier place x ++ each_at one text (earlier ++ x ∷ []) next xs))
       total
       (rise_append place next (next + length (flat_map text xs)) (one earlier place x) _ (rises earlier place x)
       (each_rises one text rises (earlier ++ x ∷ []) next xs))

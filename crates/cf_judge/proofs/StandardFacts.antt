@@ -1,11 +1,12 @@
 -- Rows to compare with the Specification: what is demanded of two classes, with the places.
 use Rattle.std.proofs.Common.{◌≡◌, [], ◌∷◌, refl, codes}
+use Rattle.jv_list.specs.Places.{each_at}
 use Rattle.cf_pool.specs.declared.entry.PoolEntry.TheVariants as entries
 use Rattle.cf_pool.specs.ModifiedUtf8.{encoded_unit}
 use Rattle.cf_structure.specs.Raw.{constant, code, skipped, RawMember, RawClass, RawFile}
 use Rattle.cf_judge.specs.declared.form.Form.TheVariants as forms
 use Rattle.cf_judge.specs.declared.index.Wanted.TheVariants.{Formed, PlainClass, CatchType}
-use Rattle.cf_judge.specs.Demands.{demand, finds, fits, is_new, has_codes, each_demands, class_demands, demands}
+use Rattle.cf_judge.specs.Demands.{demand, finds, fits, is_new, has_codes, class_demands, demands}
 
 -- The smallest class, T: its pool is the class T, "T", the class java/lang/Object and its name.
 smallest : RawFile
@@ -29,7 +30,7 @@ smallest = record {
 of_smallest : demands smallest
     ≡ demand 11 (finds (Formed forms.ClassOrArray) 2) ∷ demand 18 (finds (Formed forms.ClassOrArray) 4)
     ∷ demand 41 (finds PlainClass 1) ∷ demand 43 (finds PlainClass 3) ∷ []
-unfolding smallest each_demands encoded_unit
+unfolding smallest each_at encoded_unit
 of_smallest = refl
 
 -- A field with the ConstantValue 10, and a method whose Code has one byte of code, one row and one attribute.
@@ -75,5 +76,5 @@ of_class : class_demands 100 class
     ∷ demand 134 (finds (Formed forms.MethodDescriptor) 5) ∷ demand 138 (finds (Formed forms.Attribute) 6)
     ∷ demand 161 (finds CatchType 2) ∷ demand 165 (finds (Formed forms.Attribute) 1)
     ∷ demand 173 (finds (Formed forms.Attribute) 1) ∷ []
-unfolding field method class each_demands
+unfolding field method class each_at
 of_class = refl

@@ -2,6 +2,7 @@
 -- the place of the field, in file order.
 use Rattle.std.specs.Prelude.{ℕ, ◌+◌, Bool, true, false, List, [], ◌∷◌, ◌++◌, length}
 use Rattle.std.specs.List.{flat_map, count_by}
+use Rattle.jv_list.specs.Places.{each_at, each_place}
 use Rattle.cf_pool.specs.declared.entry.PoolEntry.{PoolEntry}
 use Rattle.cf_pool.specs.declared.entry.PoolEntry.TheVariants.{Class, Str, Field}
 use Rattle.cf_pool.specs.declared.entry.PoolEntry.TheVariants.{Method, InterfaceMethod, NameAndType}
@@ -35,17 +36,6 @@ pub record Demand : Type 0 where
 
 abbrev pub demand : ℕ → Rule → Demand
 demand place rule = record { place = place; rule = rule }
-
--- the demands of structures that stand one after the other, each by those before it
-unfoldable pub each_demands : {A : Type 0} → (List A → ℕ → A → List Demand) → (A → List ℕ) → List A → ℕ → List A
-    → List Demand
-each_demands one text earlier place [] = []
-each_demands one text earlier place (x ∷ xs) =
-    one earlier place x ++ each_demands one text (earlier ++ x ∷ []) (place + length (text x)) xs
-
--- the same, where those before it do not matter
-abbrev pub many_demands : {A : Type 0} → (ℕ → A → List Demand) → (A → List ℕ) → ℕ → List A → List Demand
-many_demands one text place xs = each_demands (λ earlier. one) text [] place xs
 
 -- the name and the descriptor of a reference to a field, and of one to a method (4.4.2)
 abbrev pub field_type : Wanted
@@ -89,8 +79,8 @@ rows_place place c = place + 8 + length c.code + 2
 
 abbrev pub code_demands : ℕ → RawCode → List Demand
 code_demands place c =
-    many_demands row_demands row_text (rows_place place c) c.rows
-    ++ many_demands skipped_demands skipped_text (rows_place place c + length (flat_map row_text c.rows) + 2) c.attributes
+    each_place row_demands row_text (rows_place place c) c.rows
+    ++ each_place skipped_demands skipped_text (rows_place place c + length (flat_map row_text c.rows) + 2) c.attributes
 
 -- the content of an attribute of a member with that descriptor
 abbrev pub body_demands : ℕ → ℕ → RawBody → List Demand
@@ -129,13 +119,13 @@ flags_demands kinds.Method earlier place m =
 abbrev pub named_demands : MemberKind → ℕ → RawMember → List Demand
 named_demands kind place m =
     pair_demands place (wanted.Formed (name_form kind)) m.name (wanted.Formed (desc_form kind)) m.desc
-    ++ many_demands (attribute_demands m.desc) attribute_text (place + 6) m.attributes
+    ++ each_place (attribute_demands m.desc) attribute_text (place + 6) m.attributes
 
 abbrev pub member_demands : MemberKind → List RawMember → ℕ → RawMember → List Demand
 member_demands kind earlier place m = flags_demands kind earlier place m ++ named_demands kind (place + 2) m
 
 abbrev pub members_demands : MemberKind → ℕ → List RawMember → List Demand
-members_demands kind place ms = each_demands (member_demands kind) member_text [] place ms
+members_demands kind place ms = each_at (member_demands kind) member_text [] place ms
 
 -- what stands behind the pool (4.1), each list behind its count
 abbrev pub index_demands : ℕ → ℕ → List Demand
@@ -154,7 +144,7 @@ attributes_place place c = methods_place place c + length (flat_map member_text 
 abbrev pub header_demands : ℕ → RawClass → List Demand
 header_demands place c =
     pair_demands (place + 2) wanted.PlainClass c.this_class wanted.PlainClass c.super_class
-    ++ many_demands index_demands two (place + 8) c.interfaces
+    ++ each_place index_demands two (place + 8) c.interfaces
 
 -- what stands behind the pool; no ConstantValue counts among its attributes, so that no descriptor is asked for
 abbrev pub class_demands : ℕ → RawClass → List Demand
@@ -162,10 +152,10 @@ class_demands place c =
     header_demands place c
     ++ (members_demands kinds.Field (fields_place place c) c.fields
     ++ (members_demands kinds.Method (methods_place place c) c.methods
-    ++ many_demands (attribute_demands 0) attribute_text (attributes_place place c) c.attributes))
+    ++ each_place (attribute_demands 0) attribute_text (attributes_place place c) c.attributes))
 
 -- a class file: the entries of its pool begin at place 10
 abbrev pub demands : RawFile → List Demand
 demands file =
-    many_demands entry_demands entry_text 10 file.pool
+    each_place entry_demands entry_text 10 file.pool
     ++ class_demands (10 + length (flat_map entry_text file.pool)) file.class

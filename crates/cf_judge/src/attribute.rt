@@ -1,10 +1,11 @@
 // Attributes (JVM Specification SE 8, 4.7).
 ghost use Rattle.std.specs.Prelude.{◌≡◌, ◌∷◌, [], ◌+◌, ◌^◌, ◌<◌, ◌⊎◌, ◌↔◌, IsTrue, length, map};
 ghost use Rattle.std.specs.List.{flat_map};
+ghost use Rattle.jv_list.specs.Places.{each_place};
 ghost use Rattle.cf_structure.specs.Spelled.{row_text, skipped_text, code_text, body_text, attribute_text};
 ghost use Rattle.cf_structure.specs.Views.{skipped_of, code_of, body_of, attribute_of};
 ghost use Rattle.cf_judge.specs.Indices.{Fits, FitsField};
-ghost use Rattle.cf_judge.specs.Demands.{demand, fits, attribute_name, row_demands, skipped_demands, code_demands, body_demands, attribute_demands, many_demands};
+ghost use Rattle.cf_judge.specs.Demands.{demand, fits, attribute_name, row_demands, skipped_demands, code_demands, body_demands, attribute_demands};
 ghost use Rattle.cf_judge.specs.Texts.{AreTexts};
 ghost use Rattle.cf_judge.specs.Calls.Tells.{Tells};
 
@@ -85,7 +86,7 @@ fn judge_row(pool: &[PoolEntry], texts: &[Option<Text>], place: u64, row: &Row) 
 fn judge_rows(pool: &[PoolEntry], texts: &[Option<Text>], start: u64, rows: &[Row]) -> Judged
     requires texts { AreTexts pool.now texts.now }
     requires fits { start + length (flat_map row_text rows.now) < 2 ^ 64 }
-    ensures { Tells pool.now (many_demands row_demands row_text start rows.now) (start + length (flat_map row_text rows.now)) result }
+    ensures { Tells pool.now (each_place row_demands row_text start rows.now) (start + length (flat_map row_text rows.now)) result }
 {
     let mut place = start;
     for row in rows {
@@ -117,7 +118,7 @@ fn judge_skipped_list(
 ) -> Judged
     requires texts { AreTexts pool.now texts.now }
     requires fits { start + length (flat_map skipped_text (map skipped_of attributes.now)) < 2 ^ 64 }
-    ensures { Tells pool.now (many_demands skipped_demands skipped_text start (map skipped_of attributes.now))
+    ensures { Tells pool.now (each_place skipped_demands skipped_text start (map skipped_of attributes.now))
         (start + length (flat_map skipped_text (map skipped_of attributes.now))) result }
 {
     let mut place = start;
@@ -181,7 +182,7 @@ pub(crate) fn judge_attributes(
 ) -> Judged
     requires texts { AreTexts pool.now texts.now }
     requires fits { start + length (flat_map attribute_text (map attribute_of attributes.now)) < 2 ^ 64 }
-    ensures { Tells pool.now (many_demands (attribute_demands desc) attribute_text start (map attribute_of attributes.now))
+    ensures { Tells pool.now (each_place (attribute_demands desc) attribute_text start (map attribute_of attributes.now))
         (start + length (flat_map attribute_text (map attribute_of attributes.now))) result }
 {
     let mut place = start;

@@ -1,10 +1,11 @@
 // A class file as a whole (JVM Specification SE 8, 4.1).
 ghost use Rattle.std.specs.Prelude.{◌≡◌, ◌+◌, ◌^◌, ◌<◌, length, map, IfOk, IfErr};
 ghost use Rattle.std.specs.List.{flat_map};
+ghost use Rattle.jv_list.specs.Places.{each_place};
 ghost use Rattle.cf_structure.specs.Spelled.{two, class_text, file_text};
 ghost use Rattle.cf_structure.specs.ClassFile.{Names};
 ghost use Rattle.cf_structure.specs.Views.{class_of, file_of};
-ghost use Rattle.cf_judge.specs.Demands.{index_demands, many_demands, header_demands, class_demands, demands};
+ghost use Rattle.cf_judge.specs.Demands.{index_demands, header_demands, class_demands, demands};
 ghost use Rattle.cf_judge.specs.Judged.{IsJudged, IsJudgedFault};
 ghost use Rattle.cf_judge.specs.Texts.{AreTexts};
 ghost use Rattle.cf_judge.specs.Calls.Tells.{Tells};
@@ -30,7 +31,7 @@ fn judge_interfaces(
 ) -> Judged
     requires texts { AreTexts pool.now texts.now }
     requires fits { start + length (flat_map two interfaces.now) < 2 ^ 64 }
-    ensures { Tells pool.now (many_demands index_demands two start interfaces.now) (start + length (flat_map two interfaces.now)) result }
+    ensures { Tells pool.now (each_place index_demands two start interfaces.now) (start + length (flat_map two interfaces.now)) result }
 {
     let mut place = start;
     for index in interfaces {

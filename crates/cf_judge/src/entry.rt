@@ -1,8 +1,9 @@
 // The entries of the pool (JVM Specification SE 8, 4.4).
 ghost use Rattle.std.specs.Prelude.{◌≡◌, ℕ, ◌+◌, ◌^◌, ◌<◌, ◌≤◌, length};
 ghost use Rattle.std.specs.List.{flat_map};
+ghost use Rattle.jv_list.specs.Places.{each_place};
 ghost use Rattle.cf_pool.specs.Spelling.{entry_text};
-ghost use Rattle.cf_judge.specs.Demands.{entry_demands, many_demands};
+ghost use Rattle.cf_judge.specs.Demands.{entry_demands};
 ghost use Rattle.cf_judge.specs.Texts.{AreTexts};
 ghost use Rattle.cf_judge.specs.Calls.Tells.{Tells};
 ghost use Rattle.cf_judge.specs.Calls.Inner.{indices_demands, indices_size};
@@ -72,7 +73,7 @@ fn judge_entry(pool: &[PoolEntry], texts: &[Option<Text>], place: u64, entry: &P
 pub(crate) fn judge_entries(pool: &[PoolEntry], texts: &[Option<Text>], start: u64) -> Judged
     requires texts { AreTexts pool.now texts.now }
     requires fits { start + length (flat_map entry_text pool.now) < 2 ^ 64 }
-    ensures { Tells pool.now (many_demands entry_demands entry_text start pool.now) (start + length (flat_map entry_text pool.now)) result }
+    ensures { Tells pool.now (each_place entry_demands entry_text start pool.now) (start + length (flat_map entry_text pool.now)) result }
 {
     let mut place = start;
     for entry in pool {

@@ -173,7 +173,7 @@ pub(crate) fn fault_at(place: u64, what: What) -> Judged
 }
 
 /// The index at that place.
-#[tactic(auto, unfolding(crate::specs::Calls::Tells::AreKept, crate::specs::Calls::Tells::IsFirstBroken))]
+#[tactic(auto, unfolding(crate::specs::Calls::Tells::AreKept, crate::specs::Calls::Tells::IsFirstBroken, jv_list::specs::Firsts::FirstBreaks))]
 pub(crate) fn judge_index(
     pool: &[PoolEntry],
     texts: &[Option<Text>],

@@ -1,13 +1,12 @@
 -- The shape after an instruction, from the stack after it.
-use Rattle.std.proofs.Common.{◌≡◌, ℕ, List, Option, Some, None, Result, Ok, Err, refl, sym, ap, subst, ◌∙◌}
+use Rattle.std.proofs.Common.{◌≡◌, List, Option, Some, None, Result, Ok, Err, sym, ap, subst}
 use Rattle.std.specs.Prelude.{IfOk, MatchOption}
-use Rattle.std.specs.declared.alloc.AllocError.{AllocError}
 use Rattle.ck_shapes.specs.declared.shape.ValueType.{ValueType}
 use Rattle.ck_shapes.specs.declared.shape.Shape.{Shape}
 use Rattle.ck_shapes.specs.declared.shape.Limits.{Limits}
 use Rattle.ck_shapes.specs.declared.effect.Move.{Move}
 use Rattle.ck_shapes.specs.declared.effect.Effect.{Effect}
-use Rattle.ck_shapes.specs.declared.effect.Effect.TheVariants.{Moves, Loads, Stores, Increments, Replaces}
+use Rattle.ck_shapes.specs.declared.effect.Effect.TheVariants.{Moves, Replaces}
 use Rattle.ck_shapes.specs.Shape.{Applies, HaveSame, IsMoved, IsReplaced, local_at}
 use Rattle.ck_shapes.specs.Calls.Joins.{HasStack}
 

@@ -1,14 +1,13 @@
 -- Following one instruction.
-use Rattle.std.proofs.Common.{◌≡◌, ℕ, ◌+◌, ◌≤◌, ◌<◌, ◌⊎◌, Bool, true, List, [], ◌∷◌, ◌++◌, length, Option, Some, None}
+use Rattle.std.proofs.Common.{◌≡◌, ℕ, Bool, true, List, [], ◌∷◌, ◌++◌, length, Option, Some, None}
 use Rattle.std.proofs.Common.{refl, sym, ap, subst, ◌∙◌, arith, inl, inr, zero, suc, replicate}
-use Rattle.std.specs.Prelude.{Contains, IfOk, IfSome, IsTrue, Result, Ok, Err}
+use Rattle.std.specs.Prelude.{Contains, IfOk, IsTrue, Result, Ok, Err}
 use Rattle.std.proofs.lemmas.Option.{none-some, same_Some}
 use Rattle.std.proofs.lemmas.List.Elements.{Contains-push_cases}
 use Rattle.std.proofs.lemmas.Bool.Decides.{nat_tests}
 use Rattle.jv_list.proofs.FilterLemmas.{in_filter, from_filter}
 use Rattle.jv_list.proofs.MemberLemmas.{in_map, from_map}
 use Rattle.ck_shapes.specs.declared.shape.Shape.{Shape}
-use Rattle.ck_shapes.specs.declared.shape.Limits.{Limits}
 use Rattle.ck_shapes.specs.declared.flow.Action.{Action}
 use Rattle.ck_shapes.specs.declared.flow.Step.{Step}
 use Rattle.ck_shapes.specs.declared.flow.Handler.{Handler}
@@ -16,11 +15,11 @@ use Rattle.ck_shapes.specs.declared.flow.Flow.{Flow}
 use Rattle.ck_shapes.specs.declared.way.Way.{Way}
 use Rattle.ck_shapes.specs.declared.search.Known.{Known}
 use Rattle.ck_shapes.specs.Shape.{IsWeaker, Applies}
-use Rattle.ck_shapes.specs.Rules.{GivenShapes, shape_at, step_at, at_handler, Covers, IsLed, Flows, MeetsRules}
+use Rattle.ck_shapes.specs.Rules.{GivenShapes, shape_at, at_handler, Covers, IsLed, Flows, MeetsRules}
 use Rattle.ck_shapes.specs.Calls.Places.{ArePlaces}
 use Rattle.ck_shapes.specs.Calls.Ways.{covers, handlers_at, IsWay, HasNoWay}
-use Rattle.ck_shapes.specs.Calls.Search.{HaveRoom, Weakens, Stand, AreBelow, CanStand, IsSound}
-use Rattle.ck_shapes.proofs.KnownLemmas.{led_weaker, weaker_trans}
+use Rattle.ck_shapes.specs.Calls.Search.{Weakens, Stand, AreBelow, CanStand, IsSound}
+use Rattle.ck_shapes.proofs.KnownLemmas.{led_weaker}
 use Rattle.ck_shapes.proofs.EffectLemmas.{applies_weaker, applies_more}
 use Rattle.ck_shapes.proofs.PlaceLemmas.{place_within}
 use Rattle.ck_shapes.proofs.SearchLemmas.{led_later, weakens_trans}
@@ -173,10 +172,6 @@ pub if_below : {E : Type 0} (r : Result Bool E) (A B P Q R : GivenShapes → Typ
     → IfOk r (λ b. (all : GivenShapes) → A all → B all → IsTrue b × AreBelow new all)
 if_below (Err e) A B P Q R new h f = tt
 if_below (Ok b) A B P Q R new h f = λ all a c. let p = f all a c in h all p.0 p.1 p.2
-
-pub at_some : {X : Type 0} (o : Option X) (P : X → Type 0) (x : X) → IfSome o P → o ≡ Some x → P x
-at_some None P x h e = absurd (none-some x e)
-at_some (Some y) P x h e = subst P (same_Some y x e) h
 
 -- ---- the start
 

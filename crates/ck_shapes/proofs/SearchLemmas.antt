@@ -1,9 +1,9 @@
 -- How what is known becomes less, and stays above all shapes that meet the rules.
-use Rattle.std.proofs.Common.{◌≡◌, ◌≢◌, ℕ, zero, suc, ◌+◌, ◌*◌, ◌≤◌, ◌<◌, ◌⊎◌, Bool, true, false, List, [], ◌∷◌, ◌++◌}
-use Rattle.std.proofs.Common.{length, take, get_or, slice_get, slice_set, Option, Some, None, refl, sym, ap, subst, ◌∙◌}
-use Rattle.std.proofs.Common.{arith, inl, inr, IsTrue, option_and_then}
+use Rattle.std.proofs.Common.{◌≡◌, ◌≢◌, ℕ, zero, suc, ◌+◌, ◌≤◌, ◌<◌, ◌⊎◌, Bool, true, false, List, [], ◌∷◌}
+use Rattle.std.proofs.Common.{length, take, get_or, slice_set, Option, Some, None, refl, sym, ap, subst, ◌∙◌}
+use Rattle.std.proofs.Common.{arith, inl, inr, IsTrue}
 use Rattle.std.specs.Prelude.{Contains}
-use Rattle.std.proofs.lemmas.Option.{none-some, same_Some}
+use Rattle.std.proofs.lemmas.Option.{same_Some}
 use Rattle.std.proofs.lemmas.List.{length-append, length-set, take_more}
 use Rattle.std.proofs.lemmas.List.Elements.{Contains-push, Contains-push_cases, Contains-append_left}
 use Rattle.jv_list.proofs.TestLemmas.{same_or_not}
@@ -12,9 +12,9 @@ use Rattle.ck_shapes.specs.declared.shape.Limits.{Limits}
 use Rattle.ck_shapes.specs.declared.search.Known.{Known}
 use Rattle.ck_shapes.specs.Shape.{words, IsWeaker}
 use Rattle.ck_shapes.specs.Rules.{shape_at, GivenShapes, IsLed}
-use Rattle.ck_shapes.specs.Calls.Search.{JoinsTo, StandsFor, HasOtherStack, rank, ranks, measure, HaveRoom, Weakens}
+use Rattle.ck_shapes.specs.Calls.Search.{StandsFor, HasOtherStack, rank, ranks, measure, HaveRoom, Weakens}
 use Rattle.ck_shapes.specs.Calls.Search.{Stand, AreBelow, CanStand, Puts, HasRoomAt, Leads}
-use Rattle.ck_shapes.proofs.KnownLemmas.{weaker_refl, weaker_trans, led_weaker, joins_shape, joins_known, joins_most}
+use Rattle.ck_shapes.proofs.KnownLemmas.{weaker_refl, led_weaker, joins_shape, joins_known, joins_most}
 use Rattle.ck_shapes.proofs.KnownLemmas.{joins_rank, stands_weaker, joined_long}
 
 -- ---- what stands at a pc

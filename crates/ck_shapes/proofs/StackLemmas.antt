@@ -1,12 +1,13 @@
 -- The words of a stack, and how it is cut and moved.
 use Rattle.std.proofs.Common.{◌≡◌, ℕ, zero, suc, ◌+◌, ◌≤◌, ◌<◌, ◌-◌, List, [], ◌∷◌, ◌++◌, length, take, drop, get_or}
 use Rattle.std.proofs.Common.{◌⊎◌}
-use Rattle.std.proofs.Common.{Bool, true, false, Decides, refl, sym, ap, subst, ◌∙◌, arith, inl, inr}
+use Rattle.std.proofs.Common.{true, false, Decides, refl, sym, ap, subst, ◌∙◌, arith, inl, inr}
 use Rattle.std.proofs.Common.{not}
 use Rattle.std.specs.Cmp.Lexicographic.{pointwise}
 use Rattle.std.proofs.lemmas.Slice.Eq.{slice_eq-Decides}
 use Rattle.std.proofs.lemmas.Bool.{both_ways, not-true, not-false}
-use Rattle.std.proofs.lemmas.List.{length-append, append_cancel_right}
+use Rattle.std.proofs.lemmas.List.{length-append, append_cancel_right, take-append-drop}
+use Rattle.jv_list.proofs.PieceLemmas.{take_front, drop_front}
 use Rattle.ck_shapes.specs.contracts.shape.ValueTypePartialEq.TheImpl.{eq-value}
 use Rattle.ck_shapes.specs.declared.shape.ValueType.{ValueType}
 use Rattle.ck_shapes.specs.declared.shape.ValueType.TheVariants.{Int, Long, Reference}
@@ -117,19 +118,6 @@ too_wide xs rest left count k w d some within counted more is wide le e =
 
 -- ---- cuts
 
-drop_front : (xs ys : List ValueType) → drop (length xs) (xs ++ ys) ≡ ys
-drop_front [] ys = refl
-drop_front (x ∷ xs) ys = drop_front xs ys
-
-take_front : (xs ys : List ValueType) → take (length xs) (xs ++ ys) ≡ xs
-take_front [] ys = refl
-take_front (x ∷ xs) ys = ap (λ (l : List ValueType). x ∷ l) (take_front xs ys)
-
-both_parts : (k : ℕ) (xs : List ValueType) → xs ≡ take k xs ++ drop k xs
-both_parts zero xs = refl
-both_parts (suc k) [] = refl
-both_parts (suc k) (x ∷ xs) = ap (λ (l : List ValueType). x ∷ l) (both_parts k xs)
-
 module _ (s : List ValueType) (count : ℕ) where
   pub cut_within : (rest top : List ValueType) → IsCut s count rest top → length rest ≤ length s
   cut_within rest top cut = omega (arith, ap length cut.parts, length-append rest top)
@@ -139,7 +127,7 @@ module _ (s : List ValueType) (count : ℕ) where
       ap (λ (l : List ValueType). words (drop (length rest) l)) cut.parts ∙ ap words (drop_front rest top) ∙ cut.counted
 
   pub cut_at : (k : ℕ) → words (drop k s) ≡ count → IsCut s count (take k s) (drop k s)
-  cut_at k e = record { parts = both_parts k s; counted = e }
+  cut_at k e = record { parts = sym (take-append-drop k s); counted = e }
 
   pub cut_rest : (a at b bt : List ValueType) → IsCut s count a at → IsCut s count b bt → a ≡ b
   cut_rest a at b bt p q =

@@ -6,7 +6,9 @@ use Rattle.std.proofs.lemmas.Option.{none-some}
 use Rattle.hi_tree.specs.Walks.{Climb, IsAbove, direct, further, IsClean}
 use Rattle.hi_tree.specs.Calls.Steps.{Marks, IsMarked}
 use Rattle.hi_tree.proofs.UnderWay.{Stand, IsUnderWay}
-use Rattle.hi_tree.proofs.ListLemmas.{same_or_not, in_front, some_other}
+use Rattle.jv_list.proofs.DecidedLemmas.{lists}
+use Rattle.jv_list.proofs.MemberLemmas.{first_member}
+use Rattle.jv_list.proofs.TestLemmas.{some_same}
 
 module _ (w : Climb) (start : List ℕ) where
   -- the first class is climbed from
@@ -17,13 +19,13 @@ module _ (w : Climb) (start : List ℕ) where
   begins old new none set known free = record {
     mark = true;
     begun = set.same;
-    on = λ q on. elim (same_or_not start q) [
-      | inl same ↦ subst (λ (x : List ℕ). Contains (start ∷ []) x) same (in_front start [])
+    on = λ q on. elim (lists start q) [
+      | inl same ↦ subst (λ (x : List ℕ). Contains (start ∷ []) x) same (first_member start [])
       | inr differs ↦ absurd (none-some true (sym (none q) ∙ sym (set.other q differs) ∙ on))
     ];
     done = λ q off. absurd (only_start q off);
     closed = λ q place above off at. absurd (only_start q off);
-    reached = λ q mark now. elim (same_or_not start q) [
+    reached = λ q mark now. elim (lists start q) [
       | inl same ↦ inl (sym same)
       | inr differs ↦ absurd (none-some mark (sym (none q) ∙ sym (set.other q differs) ∙ now))
     ];
@@ -43,8 +45,8 @@ module _ (w : Climb) (start : List ℕ) where
   }
     where
       only_start : (q : List ℕ) → new q ≡ Some false → ⊥
-      only_start q off = elim (same_or_not start q) [
-        | inl same ↦ true≢false (some_other true false (new q) (ap new (sym same) ∙ set.same) off)
+      only_start q off = elim (lists start q) [
+        | inl same ↦ true≢false (some_same (new q) true false (ap new (sym same) ∙ set.same) off)
         | inr differs ↦ none-some false (sym (none q) ∙ sym (set.other q differs) ∙ off)
       ]
 

@@ -4,7 +4,7 @@ use Rattle.std.proofs.Common.{inr, Some, None, Option, length, sym, ◌∙◌, a
 use Rattle.std.specs.Prelude.{slice_get}
 use Rattle.std.proofs.lemmas.Option.{same_Some, none-some}
 use Rattle.hi_tree.specs.Calls.Steps.{Step, Marks, IsMarked, climbed}
-use Rattle.hi_tree.proofs.ListLemmas.{same_or_not}
+use Rattle.jv_list.proofs.DecidedLemmas.{lists}
 
 -- what a class that was not met can take
 abbrev pub weight_of : Option Bool → ℕ → ℕ
@@ -26,7 +26,7 @@ left supers all marks steps = unmet supers marks all + open_count steps
 module _ (supers : List ℕ → List (List ℕ)) (old new : Marks) (a : List ℕ) (mark : Bool)
     (set : IsMarked old a mark new) where
   weight_falls : (q : List ℕ) (count : ℕ) → weight_of (new q) count ≤ weight_of (old q) count
-  weight_falls q count = elim (same_or_not a q) [
+  weight_falls q count = elim (lists a q) [
     | inl same ↦
         let e : weight_of (new q) count ≡ 0 = ap (λ (x : List ℕ). weight_of (new x) count) (sym same)
         ∙ ap (λ (o : Option Bool). weight_of o count) set.same in

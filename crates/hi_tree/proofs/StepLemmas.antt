@@ -1,21 +1,18 @@
 -- The steps of a walk under way.
 use Rattle.std.proofs.Common.{◌≡◌, ℕ, ◌<◌, ◌≤◌, Bool, true, false, List, [], ◌∷◌, ◌⊎◌, inl, inr, Contains, Some}
-use Rattle.std.proofs.Common.{None, Option, length, sym, ◌∙◌, ap, subst, refl, arith, true≢false}
-use Rattle.std.specs.Prelude.{slice_get}
+use Rattle.std.proofs.Common.{None, Option, slice_get, length, sym, ◌∙◌, ap, subst, refl, arith, true≢false}
 use Rattle.std.proofs.lemmas.Bool.{cases_lt}
-use Rattle.std.proofs.lemmas.Option.{same_Some, none-some}
+use Rattle.std.proofs.lemmas.Option.{same_Some, none-some, slice_get_within}
 use Rattle.hi_tree.specs.Walks.{Climb, IsAbove, direct, IsClean, clean, Stop, circular, StopsAt, Stops, again, higher}
-use Rattle.hi_tree.proofs.ListLemmas.{same_or_not, in_rest, in_front, slice_get_within, slice_get_end, some_other}
+use Rattle.jv_list.proofs.DecidedLemmas.{lists}
+use Rattle.jv_list.proofs.MemberLemmas.{later_member, first_member}
+use Rattle.jv_list.proofs.ElementLemmas.{none_at}
+use Rattle.jv_list.proofs.TestLemmas.{some_same}
 use Rattle.hi_tree.proofs.WalkLemmas.{Contains_cases, above_above}
 use Rattle.hi_tree.specs.Calls.Steps.{Step, Marks, IsMarked, climbed}
-use Rattle.hi_tree.proofs.UnderWay.{names_of, IsStep, Stand, IsUnderWay}
+use Rattle.hi_tree.proofs.UnderWay.{Keeps, names_of, IsStep, Stand, IsUnderWay}
 
 module _ (w : Climb) (start : List ℕ) where
-  -- what is done stays done, and what is being climbed from stays so
-  abbrev Keeps : Marks → Marks → List Step → Type 0
-  Keeps old new steps = ((q : List ℕ) → old q ≡ Some false → new q ≡ Some false)
-      × ((q : List ℕ) → Contains (names_of steps) q → old q ≡ Some true → new q ≡ Some true)
-
   stand_kept : (old new : Marks) (upper : Option (List ℕ)) (steps : List Step) → Keeps old new steps
       → Stand w start old upper steps
       → Stand w start new upper steps
@@ -27,7 +24,7 @@ module _ (w : Climb) (start : List ℕ) where
       known = is.0.known;
       free = is.0.free;
       fresh = is.0.fresh;
-      marked = keeps.1 s.name (in_front s.name (names_of ss)) is.0.marked;
+      marked = keeps.1 s.name (first_member s.name (names_of ss)) is.0.marked;
       within = is.0.within;
       passed = λ place above below e. elim (is.0.passed place above below e) [
         | inl done ↦ inl (keeps.0 above done)
@@ -35,7 +32,8 @@ module _ (w : Climb) (start : List ℕ) where
       ];
       leads = is.0.leads;
     },
-    stand_kept old new (Some s.name) ss (keeps.0, λ q there. keeps.1 q (in_rest s.name (names_of ss) q there)) is.1,
+    stand_kept old new (Some s.name) ss
+        (keeps.0, λ q there. keeps.1 q (later_member s.name (names_of ss) q there)) is.1,
   )
 
   -- the class above that was climbed to is done
@@ -159,7 +157,7 @@ module _ (w : Climb) (start : List ℕ) where
       old_mark q mark differs is_new = sym (set.other q differs) ∙ is_new
 
       not_off : (q : List ℕ) → new q ≡ Some false → a ≡ q → ⊥
-      not_off q off same = true≢false (some_other true false (new a) set.same (ap new same ∙ off))
+      not_off q off same = true≢false (some_same (new a) true false set.same (ap new same ∙ off))
 
       keeps : Keeps marks new ss
       keeps = (off_stays, λ q there. on_stays q)
@@ -178,10 +176,10 @@ module _ (w : Climb) (start : List ℕ) where
       }
 
       pushed_on : (q : List ℕ) → new q ≡ Some true → Contains (a ∷ (s.name ∷ names_of ss)) q
-      pushed_on q on = elim (same_or_not a q) [
-        | inl same ↦ subst (λ (x : List ℕ). Contains (a ∷ (s.name ∷ names_of ss)) x) same (in_front a
+      pushed_on q on = elim (lists a q) [
+        | inl same ↦ subst (λ (x : List ℕ). Contains (a ∷ (s.name ∷ names_of ss)) x) same (first_member a
             (s.name ∷ names_of ss))
-        | inr differs ↦ in_rest a (s.name ∷ names_of ss) q (is.on q (old_mark q true differs on))
+        | inr differs ↦ later_member a (s.name ∷ names_of ss) q (is.on q (old_mark q true differs on))
       ]
 
       up_from : (s.name ≡ start) ⊎ IsAbove w.supers start s.name → IsAbove w.supers start a
@@ -190,7 +188,7 @@ module _ (w : Climb) (start : List ℕ) where
       up_from (inr above) = above_above w above (direct s.name a s.next (at_above s.next a e))
 
       pushed_reached : (q : List ℕ) (mark : Bool) → new q ≡ Some mark → (q ≡ start) ⊎ IsAbove w.supers start q
-      pushed_reached q mark now = elim (same_or_not a q) [
+      pushed_reached q mark now = elim (lists a q) [
         | inl same ↦ inr (subst (λ (x : List ℕ). IsAbove w.supers start x) same (up_from
             (is.reached s.name true top.marked)))
         | inr differs ↦ is.reached q mark (old_mark q mark differs now)
@@ -226,7 +224,7 @@ module _ (w : Climb) (start : List ℕ) where
       below_end : (place : ℕ) (a : List ℕ) → slice_get s.above place ≡ Some a → place < s.next
       below_end place a at =
           let b : place < length s.above = slice_get_within s.above place a at in
-          let c : length s.above ≤ s.next = slice_get_end s.above s.next e in
+          let c : length s.above ≤ s.next = none_at s.above s.next e in
           omega arith
 
       above_done : (place : ℕ) (a : List ℕ) → slice_get (w.supers s.name) place ≡ Some a → marks a ≡ Some false
@@ -238,7 +236,7 @@ module _ (w : Climb) (start : List ℕ) where
       is_clean = clean s.name top.known top.free (λ place a at. is.done a (above_done place a at))
 
       off_stays_too : (q : List ℕ) → marks q ≡ Some false → new q ≡ Some false
-      off_stays_too q off = elim (same_or_not s.name q) [
+      off_stays_too q off = elim (lists s.name q) [
         | inl same ↦ subst (λ (x : List ℕ). new x ≡ Some false) same set.same
         | inr differs ↦ set.other q differs ∙ off
       ]
@@ -248,8 +246,8 @@ module _ (w : Climb) (start : List ℕ) where
           set.other q (λ same. top.fresh (subst (λ (x : List ℕ). Contains (names_of ss) x) (sym same) there)) ∙ on
 
       popped_on : (q : List ℕ) → new q ≡ Some true → Contains (names_of ss) q
-      popped_on q on = elim (same_or_not s.name q) [
-        | inl same ↦ absurd (true≢false (some_other true false (new q) on (ap new (sym same) ∙ set.same)))
+      popped_on q on = elim (lists s.name q) [
+        | inl same ↦ absurd (true≢false (some_same (new q) true false on (ap new (sym same) ∙ set.same)))
         | inr differs ↦ elim (Contains_cases s.name (names_of ss) q (is.on q (sym (set.other q differs) ∙ on))) [
           | inl same ↦ absurd (differs same)
           | inr there ↦ there
@@ -257,7 +255,7 @@ module _ (w : Climb) (start : List ℕ) where
       ]
 
       popped_done : (q : List ℕ) → new q ≡ Some false → IsClean w q
-      popped_done q off = elim (same_or_not s.name q) [
+      popped_done q off = elim (lists s.name q) [
         | inl same ↦ subst (λ (x : List ℕ). IsClean w x) same is_clean
         | inr differs ↦ is.done q (sym (set.other q differs) ∙ off)
       ]
@@ -265,7 +263,7 @@ module _ (w : Climb) (start : List ℕ) where
       popped_closed : (q : List ℕ) (place : ℕ) (above : List ℕ) → new q ≡ Some false
           → slice_get (w.supers q) place ≡ Some above
           → new above ≡ Some false
-      popped_closed q place above off at = elim (same_or_not s.name q) [
+      popped_closed q place above off at = elim (lists s.name q) [
         | inl same ↦
             off_stays_too above
             (above_done place above (ap (λ (x : List ℕ). slice_get (w.supers x) place) same ∙ at))
@@ -273,14 +271,14 @@ module _ (w : Climb) (start : List ℕ) where
       ]
 
       popped_reached : (q : List ℕ) (mark : Bool) → new q ≡ Some mark → (q ≡ start) ⊎ IsAbove w.supers start q
-      popped_reached q mark now = elim (same_or_not s.name q) [
+      popped_reached q mark now = elim (lists s.name q) [
         | inl same ↦ subst (λ (x : List ℕ). (x ≡ start) ⊎ IsAbove w.supers start x) same
             (is.reached s.name true top.marked)
         | inr differs ↦ is.reached q mark (sym (set.other q differs) ∙ now)
       ]
 
       popped_begun : (mark : Bool) × (new start ≡ Some mark)
-      popped_begun = elim (same_or_not s.name start) [
+      popped_begun = elim (lists s.name start) [
         | inl same ↦ (false, subst (λ (x : List ℕ). new x ≡ Some false) same set.same)
         | inr differs ↦ (is.mark, set.other start differs ∙ is.begun)
       ]

@@ -37,3 +37,8 @@ module _ (w : Climb) (start : List ℕ) where
         → marks above ≡ Some false
     pub reached : (q : List ℕ) (mark : Bool) → marks q ≡ Some mark → (q ≡ start) ⊎ IsAbove w.supers start q
     pub stand : Stand marks None steps
+
+-- what is done stays done, and what is being climbed from stays so
+abbrev pub Keeps : Marks → Marks → List Step → Type 0
+Keeps old new steps = ((q : List ℕ) → old q ≡ Some false → new q ≡ Some false)
+    × ((q : List ℕ) → Contains (names_of steps) q → old q ≡ Some true → new q ≡ Some true)

@@ -1,6 +1,6 @@
 -- Elements by their places, and how many entries are empty.
-use Rattle.std.proofs.Common.{◌≡◌, ℕ, zero, suc, ◌+◌, ◌<◌, ◌-◌, Bool, false, cond, List, [], ◌∷◌, ◌++◌, length, take}
-use Rattle.std.proofs.Common.{set, get_or, replicate, count_by, is_none, is_some, true≢false, Option, Some, None}
+use Rattle.std.proofs.Common.{◌≡◌, ℕ, zero, suc, ◌+◌, ◌<◌, ◌≤◌, ◌-◌, Bool, false, cond, List, [], ◌∷◌, ◌++◌, length}
+use Rattle.std.proofs.Common.{take, set, get_or, replicate, count_by, is_none, is_some, true≢false, Option, Some, None}
 use Rattle.std.proofs.Common.{Contains, SomeIff, slice_get, refl, sym, ap, ◌∙◌, arith, add-zero, mul-one}
 use Rattle.std.proofs.lemmas.Option.{slice_get-get_or, slice_get_within, get_or_from_slice_get, same_Some, none-some}
 use Rattle.std.proofs.lemmas.List.Sums.{sum_by-set}
@@ -18,6 +18,12 @@ module _ {X : Type 0} where
   -- at a place stands one element
   pub one_at : (xs : List X) (i : ℕ) (x y : X) → slice_get xs i ≡ Some x → slice_get xs i ≡ Some y → x ≡ y
   one_at xs i x y e f = same_Some x y (sym e ∙ f)
+
+  -- where nothing is, the list has ended
+  pub none_at : (xs : List X) (i : ℕ) → slice_get xs i ≡ None → length xs ≤ i
+  none_at [] i e = omega arith
+  none_at (y ∷ ys) zero e = absurd (none-some y (sym e))
+  none_at (y ∷ ys) (suc i) e = let h : length ys ≤ i = none_at ys i e in omega arith
 
   -- at each place within a list stands something
   pub some_at : (xs : List X) (i : ℕ) → i < length xs → (x : X) × (slice_get xs i ≡ Some x)

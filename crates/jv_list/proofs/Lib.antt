@@ -19,3 +19,4 @@ pub mod LastLemmas
 pub mod PositionLemmas
 pub mod ZipLemmas
 pub mod AllLemmas
+pub mod NumberLemmas

@@ -1,5 +1,5 @@
 -- Lists to which pieces are added, one after the other.
-use Rattle.std.proofs.Common.{◌≡◌, ℕ, ◌-◌, List, ◌++◌, length, take, drop, sym, ap, ◌∙◌, append_assoc}
+use Rattle.std.proofs.Common.{◌≡◌, ℕ, ◌-◌, List, [], ◌∷◌, ◌++◌, length, take, drop, refl, sym, ap, ◌∙◌, append_assoc}
 use Rattle.std.proofs.lemmas.List.{take-append-drop, take_rest}
 
 module _ {X : Type 0} where
@@ -39,3 +39,12 @@ module _ {X : Type 0} where
   -- what is left from a place on
   pub rest_is : (xs : List X) (pc at : ℕ) → at ≡ pc → take (length xs - at) (drop at xs) ≡ drop pc xs
   rest_is xs pc at e = take_rest xs at ∙ ap (λ (n : ℕ). drop n xs) e
+
+  -- what stands in front of a whole, and what stands behind that
+  pub take_front : (xs ys : List X) → take (length xs) (xs ++ ys) ≡ xs
+  take_front [] ys = refl
+  take_front (x ∷ xs) ys = ap (λ (l : List X). x ∷ l) (take_front xs ys)
+
+  pub drop_front : (xs ys : List X) → drop (length xs) (xs ++ ys) ≡ ys
+  drop_front [] ys = refl
+  drop_front (x ∷ xs) ys = drop_front xs ys

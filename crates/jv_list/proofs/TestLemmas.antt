@@ -1,8 +1,9 @@
 -- What a test, an option or a result leaves to show.
 use Rattle.std.proofs.Common.{ap, ◌∙◌, ◌≡◌, ◌≢◌, ℕ, Bool, true, false, not, ◌&&◌, ◌||◌, List, [], ◌∷◌, Option, Some}
 use Rattle.std.proofs.Common.{None, Result, Ok, Err, refl, sym, subst, inl, inr, IsTrue}
-use Rattle.std.specs.Prelude.{◌↔◌, is_ok, is_err, IfNone, IfOk, OnOk, IsFalse, MatchResult, if◌then◌else◌}
+use Rattle.std.specs.Prelude.{◌↔◌, is_ok, is_err, IfNone, IfSome, IfOk, OnOk, IsFalse, MatchResult, if◌then◌else◌}
 use Rattle.std.proofs.lemmas.Bool.{cases_eq, both_ways, true≢false}
+use Rattle.std.proofs.lemmas.Option.{same_Some, none-some}
 
 -- two numbers are the same or not
 pub same_or_not : {P : Type 0} (m n : ℕ) → (m ≡ n → P) → (m ≢ n → P) → P
@@ -15,6 +16,11 @@ module _ {X : Type 0} where
   pub if_none : (o : Option X) (P : Type 0) → P → IfNone o P
   if_none None P p = p
   if_none (Some x) P p = tt
+
+  -- what holds of what is there
+  pub at_some : (o : Option X) (P : X → Type 0) (x : X) → IfSome o P → o ≡ Some x → P x
+  at_some None P x h e = absurd (none-some x e)
+  at_some (Some y) P x h e = subst P (same_Some y x e) h
 
   -- what is there is one
   pub some_same : (o : Option X) (x y : X) → o ≡ Some x → o ≡ Some y → x ≡ y

@@ -1,5 +1,7 @@
 -- What a call tells of the demands of a part of a class file.
-use Rattle.std.specs.Prelude.{◌≡◌, ℕ, ◌≤◌, List, [], ◌∷◌, Result, Ok, Err, ◌⊎◌}
+use Rattle.std.specs.Prelude.{◌≡◌, ℕ, ◌≤◌, List, Result, Ok, Err}
+use Rattle.std.specs.List.{AllByRecursion}
+use Rattle.jv_list.specs.Firsts.{FirstBreaks}
 use Rattle.cf_pool.specs.declared.entry.PoolEntry.{PoolEntry}
 use Rattle.cf_pool.specs.declared.fault.What.{What}
 use Rattle.cf_pool.specs.declared.fault.Fault.{Fault}
@@ -20,13 +22,11 @@ pub record IsBroken (pool : List PoolEntry) (d : Demand) (fault : Fault) : Type 
   pub first : (what : What) → Breaks pool d.rule what → rank fault.what ≤ rank what
 
 unfoldable pub AreKept : List PoolEntry → List Demand → Type 0
-AreKept pool [] = Unit {0}
-AreKept pool (d ∷ ds) = IsKept pool d × AreKept pool ds
+AreKept pool ds = AllByRecursion (IsKept pool) ds
 
 -- the first demand that is broken has the fault
 unfoldable pub IsFirstBroken : List PoolEntry → List Demand → Fault → Type 0
-IsFirstBroken pool [] fault = ⊥
-IsFirstBroken pool (d ∷ ds) fault = IsBroken pool d fault ⊎ (IsKept pool d × IsFirstBroken pool ds fault)
+IsFirstBroken pool ds fault = FirstBreaks (λ d. IsBroken pool d fault) (IsKept pool) ds
 
 -- all demands of a part are kept, and it ends at that place; or a refusal names the fault of the first that is broken
 abbrev pub Tells : List PoolEntry → List Demand → ℕ → Result ℕ ClassFault → Type 0

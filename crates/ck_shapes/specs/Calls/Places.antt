@@ -1,5 +1,5 @@
 -- Serves the search for shapes: where the instruction of a pc stands in the list.
-use Rattle.std.specs.Prelude.{◌≡◌, ℕ, ◌==◌, ◌&&◌, if◌then◌else◌, List, slice_get, Option, Some, None, option_and_then}
+use Rattle.std.specs.Prelude.{◌≡◌, ℕ, ◌==◌, ◌&&◌, if◌then◌else◌, List, slice_get, Option, Some, option_and_then}
 use Rattle.std.specs.Prelude.{is_none}
 use Rattle.ck_shapes.specs.declared.flow.Step.{Step}
 use Rattle.ck_shapes.specs.Rules.{step_at}

@@ -2,7 +2,7 @@ use Rattle.std.proofs.Common.{rules, ◌<◌, ◌≤◌, ◌+◌, ◌*◌, ◌^�
 use Rattle.std.proofs.lemmas.Nat.{pow_pos}
 use Rattle.cn_clauses.specs.declared.lit.Lit.{Lit}
 use Rattle.cn_clauses.specs.Formulas.{variables_of}
-use Rattle.bb_arith.proofs.NumberLemmas.{double_next}
+use Rattle.jv_list.proofs.NumberLemmas.{double_next}
 use Rattle.bb_arith.proofs.WordLemmas.{bit_within}
 use Rattle.bb_arith.proofs.PowerLemmas.{power_of, power_below, power_same, next_power}
 use Rattle.bb_arith.proofs.ShiftLemmas.{shift_start, shift_more, shift_whole, no_layer, layer_size, layers_within}

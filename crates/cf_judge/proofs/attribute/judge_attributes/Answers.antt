@@ -5,7 +5,8 @@ use Rattle.cf_structure.specs.Raw.{RawAttribute}
 use Rattle.cf_structure.specs.Spelled.{attribute_text}
 use Rattle.cf_structure.specs.Views.{attribute_of}
 use Rattle.cf_judge.specs.Demands.{Demand, attribute_demands}
-use Rattle.cf_judge.proofs.LoopLemmas.{one_of, text_of, none_done, one_fits, one_more, stops, all_done}
+use Rattle.jv_list.proofs.EachLemmas.{one_of, text_of}
+use Rattle.cf_judge.proofs.LoopLemmas.{none_done, one_fits, one_more, stops, all_done}
 use Rattle.cf_judge.proofs.LoopLemmas.{mapped_done, mapped_end, mapped_stops}
 use Rattle.cf_judge.proofs.attribute.judge_attributes.Goals as goal
 

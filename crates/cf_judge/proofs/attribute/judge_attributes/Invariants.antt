@@ -1,7 +1,8 @@
 use Rattle.cf_structure.specs.Spelled.{attribute_text}
 use Rattle.cf_structure.specs.Views.{attribute_of}
 use Rattle.cf_judge.specs.Demands.{attribute_demands}
-use Rattle.cf_judge.proofs.LoopLemmas.{IsDone, one_of, text_of}
+use Rattle.jv_list.proofs.EachLemmas.{one_of, text_of}
+use Rattle.cf_judge.proofs.LoopLemmas.{IsDone}
 use Rattle.cf_judge.proofs.attribute.judge_attributes.Given as goal
 
 abbrev pub invariant-loop-attribute : goal.invariant-loop-attribute

@@ -1,11 +1,12 @@
 use Rattle.std.proofs.Common.{refl, inl, sym, ap, arith, ◌∙◌}
 use Rattle.std.proofs.lemmas.Bool.{false≢true}
+use Rattle.jv_list.specs.Firsts.{FirstBreaks}
 use Rattle.cf_judge.specs.Words.{rank}
 use Rattle.cf_judge.specs.Calls.Tells.{AreKept, IsFirstBroken}
 use Rattle.cf_judge.proofs.attribute.judge_constant.Goals as goal
 
 pub returns-then-not-fits_field : goal.returns-then-not-fits_field
-unfolding IsFirstBroken
+unfolding IsFirstBroken FirstBreaks
 returns-then-not-fits_field c =
     rw c.fault_at.ensures
     (inl (record {

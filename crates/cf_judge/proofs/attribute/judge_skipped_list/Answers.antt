@@ -5,7 +5,8 @@ use Rattle.cf_structure.specs.Raw.{RawSkipped}
 use Rattle.cf_structure.specs.Spelled.{skipped_text}
 use Rattle.cf_structure.specs.Views.{skipped_of}
 use Rattle.cf_judge.specs.Demands.{Demand, skipped_demands}
-use Rattle.cf_judge.proofs.LoopLemmas.{one_of, text_of, none_done, next_fits, next_done, next_stops, all_done}
+use Rattle.jv_list.proofs.EachLemmas.{one_of, text_of}
+use Rattle.cf_judge.proofs.LoopLemmas.{none_done, next_fits, next_done, next_stops, all_done}
 use Rattle.cf_judge.proofs.LoopLemmas.{mapped_done, mapped_end, mapped_stops}
 use Rattle.cf_judge.proofs.attribute.judge_skipped_list.Goals as goal
 

@@ -6,7 +6,8 @@ use Rattle.cf_structure.specs.Spelled.{member_text}
 use Rattle.cf_structure.specs.Views.{member_of}
 use Rattle.cf_judge.specs.declared.member.MemberKind.{MemberKind}
 use Rattle.cf_judge.specs.Demands.{Demand, member_demands}
-use Rattle.cf_judge.proofs.LoopLemmas.{one_of, text_of, none_done, one_fits, one_more, stops, all_done}
+use Rattle.jv_list.proofs.EachLemmas.{one_of, text_of}
+use Rattle.cf_judge.proofs.LoopLemmas.{none_done, one_fits, one_more, stops, all_done}
 use Rattle.cf_judge.proofs.LoopLemmas.{mapped_done, mapped_end, mapped_stops}
 use Rattle.cf_judge.proofs.KeyLemmas.{none_seen}
 use Rattle.cf_judge.proofs.member.judge_members.Goals as goal

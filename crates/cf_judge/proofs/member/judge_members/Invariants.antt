@@ -3,7 +3,8 @@ use Rattle.cf_structure.specs.Spelled.{member_text}
 use Rattle.cf_structure.specs.Views.{member_of}
 use Rattle.cf_judge.specs.Demands.{member_demands}
 use Rattle.cf_judge.specs.Calls.Keys.{AreSeen}
-use Rattle.cf_judge.proofs.LoopLemmas.{IsDone, one_of, text_of}
+use Rattle.jv_list.proofs.EachLemmas.{one_of, text_of}
+use Rattle.cf_judge.proofs.LoopLemmas.{IsDone}
 use Rattle.cf_judge.proofs.member.judge_members.Given as goal
 
 abbrev pub invariant-loop-member : goal.invariant-loop-member

@@ -1,4 +1,4 @@
-use Rattle.std.proofs.Common.{arith, ◌≡◌, ◌∙◌, sym, subst, ap, ℕ, List, length, true≢false}
+use Rattle.std.proofs.Common.{arith, ◌≡◌, ◌∙◌, sym, subst, ap, List, length, true≢false}
 use Rattle.std.proofs.lemmas.List.{length-replicate}
 use Rattle.ck_shapes.specs.declared.flow.Step.{Step}
 use Rattle.ck_shapes.specs.Calls.Places.{ArePlaces}

@@ -1,4 +1,4 @@
-use Rattle.std.proofs.Common.{◌≡◌, ◌∙◌, ◌≤◌, ℕ, arith, ap, sym, Some, None, Option, length}
+use Rattle.std.proofs.Common.{◌≡◌, ◌∙◌, arith, ap, None, Option}
 use Rattle.ck_shapes.specs.declared.shape.ValueType.{ValueType}
 use Rattle.ck_shapes.specs.Shape.{local_at}
 use Rattle.ck_shapes.specs.Calls.Joins.{common}

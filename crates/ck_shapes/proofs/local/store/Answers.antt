@@ -1,5 +1,4 @@
-use Rattle.std.proofs.Common.{◌≡◌, ◌∙◌, ◌≤◌, ◌+◌, ℕ, arith, ap, sym, Some, None, Option, length}
-use Rattle.ck_shapes.specs.declared.shape.ValueType.{ValueType}
+use Rattle.std.proofs.Common.{◌∙◌, ℕ, arith, ap}
 use Rattle.ck_shapes.specs.Shape.{local_at, stored}
 use Rattle.ck_shapes.proofs.LocalLemmas.{Locals, table_push, table_whole, stored_past}
 use Rattle.ck_shapes.proofs.local.store.Goals as goal

@@ -1,4 +1,3 @@
-use Rattle.std.proofs.Common.{arith}
 use Rattle.ck_shapes.proofs.PlaceLemmas.{first_more}
 use Rattle.ck_shapes.proofs.places.places_of.Goals as goal
 

@@ -1,14 +1,15 @@
-use Rattle.std.proofs.Common.{arith, ◌≡◌, ◌∙◌, sym, subst, ap, ℕ, List, length, true≢false}
+use Rattle.std.proofs.Common.{arith, ◌∙◌, sym, subst, ap, ℕ, List, length, true≢false}
 use Rattle.std.specs.Prelude.{Contains}
 use Rattle.std.proofs.lemmas.Option.{MatchOption-at_none, MatchOption-at_some}
 use Rattle.ck_shapes.specs.declared.shape.Shape.{Shape}
 use Rattle.ck_shapes.specs.declared.way.Way.{Way}
-use Rattle.ck_shapes.specs.Rules.{IsLed, GivenShapes, MeetsRules}
+use Rattle.ck_shapes.specs.Rules.{IsLed, MeetsRules}
 use Rattle.ck_shapes.specs.Calls.Joins.{KeepsCount}
 use Rattle.ck_shapes.specs.Calls.Ways.{IsWay, HasNoWay}
 use Rattle.ck_shapes.specs.Calls.Search.{CanStand, AreBelow, Stand, IsSound, Weakens}
 use Rattle.ck_shapes.proofs.SearchLemmas.{weakens_trans}
-use Rattle.ck_shapes.proofs.FollowLemmas.{at_some, if_stands, if_below, no_rules, rules_can, all_nexts, all_handlers}
+use Rattle.jv_list.proofs.TestLemmas.{at_some}
+use Rattle.ck_shapes.proofs.FollowLemmas.{if_stands, if_below, no_rules, rules_can, all_nexts, all_handlers}
 use Rattle.ck_shapes.proofs.FollowLemmas.{follow_sound}
 use Rattle.ck_shapes.proofs.search.follow.Goals as goal
 

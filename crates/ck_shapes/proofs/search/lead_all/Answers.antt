@@ -1,4 +1,4 @@
-use Rattle.std.proofs.Common.{ℕ, arith, sym, subst, length, refl, get_or, true≢false, ◌∙◌}
+use Rattle.std.proofs.Common.{ℕ, sym, subst, length, refl, get_or, true≢false, ◌∙◌}
 use Rattle.jv_list.proofs.ElementLemmas.{in_read}
 use Rattle.ck_shapes.specs.Calls.Search.{CanStand}
 use Rattle.ck_shapes.proofs.SearchLemmas.{lead_stands, lead_below, stand_more}

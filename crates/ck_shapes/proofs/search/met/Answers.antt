@@ -1,4 +1,4 @@
-use Rattle.std.proofs.Common.{◌≡◌, ◌∙◌, sym, refl}
+use Rattle.std.proofs.Common.{◌∙◌, sym}
 use Rattle.ck_shapes.specs.declared.shape.Shape.{Shape}
 use Rattle.ck_shapes.proofs.StackLemmas.{same_stacks, other_stacks}
 use Rattle.ck_shapes.proofs.KnownLemmas.{met_differs, met_stays, met_becomes}

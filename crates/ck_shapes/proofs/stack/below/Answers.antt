@@ -1,5 +1,4 @@
-use Rattle.std.proofs.Common.{arith, ◌≤◌, length, ap, sym, drop, Some, ◌≡◌, ℕ}
-use Rattle.ck_shapes.specs.Shape.{words}
+use Rattle.std.proofs.Common.{arith, ap, Some, ◌≡◌}
 use Rattle.ck_shapes.proofs.StackLemmas.{one_place, too_wide}
 use Rattle.ck_shapes.proofs.stack.below.Goals as goal
 

@@ -1,4 +1,3 @@
-use Rattle.std.proofs.Common.{arith, true≢false, sym}
 use Rattle.ck_shapes.proofs.StackLemmas.{take_over, take_less}
 use Rattle.ck_shapes.proofs.stack.has_words.Goals as goal
 

@@ -1,8 +1,6 @@
-use Rattle.std.proofs.Common.{arith, ◌≤◌, length, ap, sym, subst, ◌∙◌, drop, take, Some, None, ◌≡◌, ℕ, List}
+use Rattle.std.proofs.Common.{length}
 use Rattle.std.proofs.lemmas.Option.{none-some}
-use Rattle.ck_shapes.specs.declared.shape.ValueType.{ValueType}
-use Rattle.ck_shapes.specs.Shape.{words, IsCut}
-use Rattle.ck_shapes.proofs.StackLemmas.{cut_at, cut_words, cut_within, second_cut}
+use Rattle.ck_shapes.proofs.StackLemmas.{cut_words, cut_within, second_cut}
 use Rattle.ck_shapes.proofs.stack.moved.Goals as goal
 
 pub returns-in_default : goal.returns-in_default

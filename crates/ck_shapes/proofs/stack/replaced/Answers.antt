@@ -1,4 +1,4 @@
-use Rattle.std.proofs.Common.{◌≡◌, ◌++◌, ap, ◌∙◌, Some, None}
+use Rattle.std.proofs.Common.{Some, None}
 use Rattle.std.proofs.lemmas.Slice.Eq.{strip_suffix_is}
 use Rattle.ck_shapes.proofs.StackLemmas.{type_decides}
 use Rattle.ck_shapes.proofs.stack.replaced.Goals as goal

@@ -1,8 +1,5 @@
-use Rattle.std.proofs.Common.{◌≡◌, ◌∙◌, sym, subst, Some, None, Option, List, MatchOption}
-use Rattle.ck_shapes.specs.declared.shape.Shape.{Shape}
+use Rattle.std.proofs.Common.{sym, subst}
 use Rattle.ck_shapes.specs.declared.effect.Effect.{Effect}
-use Rattle.ck_shapes.specs.declared.effect.Effect.TheVariants.{Moves, Loads, Stores, Increments, Replaces}
-use Rattle.ck_shapes.specs.Shape.{Applies}
 use Rattle.ck_shapes.proofs.AfterLemmas.{Gives, moved_gives, replaced_gives}
 use Rattle.ck_shapes.proofs.shape.Shape.after.Goals as goal
 
