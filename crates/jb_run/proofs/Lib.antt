@@ -39,3 +39,10 @@ pub mod BitLemmas
 pub mod IntGateLemmas
 pub mod ShapeLemmas
 pub mod IntLinesLemmas
+pub mod OneAnswerLemmas
+pub mod ComesLemmas
+pub mod UnaskedLemmas
+pub mod AnsweredLemmas
+pub mod ToldLemmas
+pub mod ClassComesLemmas
+pub mod ThinLemmas

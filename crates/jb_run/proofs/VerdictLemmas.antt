@@ -4,6 +4,7 @@ use Rattle.std.proofs.Common.{◌≡◌, ◌+◌, ℕ, ℤ, Bool, true, false, L
 use Rattle.std.proofs.Common.{ap, ◌∙◌, subst, arith, length-append}
 use Rattle.std.proofs.lemmas.List.{length-replicate}
 use Rattle.jv_base.specs.declared.input.Input.{Input}
+use Rattle.jv_base.specs.declared.method.Bounds.{Bounds}
 use Rattle.jv_base.specs.declared.method.Kind.{Kind}
 use Rattle.jv_base.specs.declared.method.MethodId.{MethodId}
 use Rattle.cf_thin.specs.Thin.{int_descriptor, end_of}
@@ -16,7 +17,7 @@ use Rattle.jb_run.specs.Represents.{goal_bit}
 use Rattle.jb_run.specs.Satisfies.{bit_value, Satisfies}
 use Rattle.jb_run.specs.Shown.{ShowInts}
 use Rattle.jb_run.specs.Solved.{value_at, IsRight}
-use Rattle.jb_run.specs.Violates.{HasInts, RunViolates, RunsGoOn}
+use Rattle.jb_run.specs.Violates.{HasInts, HaveRoom, RunViolates, RunsGoOn}
 use Rattle.jb_run.proofs.InputLemmas.{ints_fit, ints_number}
 use Rattle.jb_run.proofs.ShownIntLemmas.{ints_once}
 use Rattle.jv_list.proofs.ToldLemmas.{told_map}
@@ -59,10 +60,10 @@ goes_on encoding code method of input is =
     of.represents.goes_on is.ints number is.fit
 
 -- no assignment makes the goal true, so no input violates it
-pub unsat_justified : (encoding : Encoding) (code : Places) (method : MethodId) (pc : ℕ) (kind : Kind)
+pub unsat_justified : (encoding : Encoding) (code : Places) (method : MethodId) (bounds : Bounds) (pc : ℕ) (kind : Kind)
     → IsRight encoding.formula (goal_bit encoding.raised pc kind) Unsat → IsEncodingOf code method encoding
-    → IsJustified code method pc kind Success
-unsat_justified encoding code method pc kind right of input is_input violates =
+    → IsJustified bounds code method pc kind Success
+unsat_justified encoding code method bounds pc kind right of input is_input violates =
     let represents = of.represents in
     let same : is_input.ints ≡ violates.ints = input_once input is_input.ints violates.ints is_input.args violates.args
     in
@@ -75,12 +76,12 @@ unsat_justified encoding code method pc kind right of input is_input violates =
     right represents.clauses (represents.goals pc kind) a.0 a.1 ((a.3 pc kind).1 run)
 
 -- the assignment makes the goal true, so the input that it shows violates it
-pub sat_justified : (encoding : Encoding) (code : Places) (method : MethodId) (pc : ℕ) (kind : Kind)
+pub sat_justified : (encoding : Encoding) (code : Places) (method : MethodId) (bounds : Bounds) (pc : ℕ) (kind : Kind)
     (values : List Bool) (input : Input) (ints : List ℤ) → Satisfies (value_at values) encoding.formula
     → bit_value (value_at values) (goal_bit encoding.raised pc kind) ≡ true → HasInts input ints
     → ShowInts (value_at values) encoding.inputs ints → IsEncodingOf code method encoding
-    → IsJustified code method pc kind (Failure input)
-sat_justified encoding code method pc kind values input ints holds on has shows of =
+    → HaveRoom bounds → IsJustified bounds code method pc kind (Failure input)
+sat_justified encoding code method bounds pc kind values input ints holds on has shows of room =
     let represents = of.represents in
     let a = value_at values in
     let run = represents.shows a holds in
@@ -95,5 +96,5 @@ sat_justified encoding code method pc kind values input ints holds on has shows 
         gives_int = of.gives_int;
         descriptor = of.descriptor ∙ ap (λ (n : ℕ). int_descriptor n of.gives_int) (sym number);
       },
-      record { ints = ints; args = has; run = violates },
+      record { within = room; ints = ints; args = has; run = violates },
     )

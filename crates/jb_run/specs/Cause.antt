@@ -1,76 +1,30 @@
 -- The cause of each answer of the top call.
-use Rattle.std.specs.Prelude.{◌≡◌, ◌⊎◌, ℕ, ◌==◌, List, [], ◌∷◌, ◌++◌, length, map, nat_lt, Option, Some, None, IfSome}
+use Rattle.std.specs.Prelude.{◌≡◌, ◌≢◌, ◌⊎◌, ℕ, List, [], ◌∷◌, ◌++◌, length, map, nat_lt, Option, Some, None, IfSome}
 use Rattle.std.specs.Prelude.{if◌then◌else◌}
+use Rattle.std.specs.List.{AllByRecursion}
 use Rattle.std.specs.Option.{option_map}
-use Rattle.jv_base.specs.declared.method.MethodId.{MethodId}
 use Rattle.cf_class.specs.declared.class_file.ClassFile.{ClassFile}
-use Rattle.cf_class.specs.Content.{IsClass}
 use Rattle.cf_thin.specs.declared.thin.ThinMethod.{ThinMethod}
 use Rattle.cf_thin.specs.Thin.{Thin}
+use Rattle.cl_words.specs.Command.{IsCommand}
+use Rattle.cl_words.specs.declared.command.Command.{Command}
+use Rattle.cl_words.specs.declared.command.Mode.{Mode}
+use Rattle.cl_words.specs.declared.command.Mode.TheVariants as modes
 use Rattle.io_edges.specs.declared.folder.File.{File}
 use Rattle.io_edges.specs.Folder.{file_at, longest_file}
 use Rattle.io_edges.specs.Sink.{Holds, HoldsFront}
 use Rattle.jb_run.specs.declared.report.Was.{Was}
 use Rattle.jb_run.specs.declared.report.Was.TheVariants.{Found, Absent, TooLong}
+use Rattle.jb_run.specs.declared.report.World.{World}
 use Rattle.jb_run.specs.declared.report.Line.{Line}
-use Rattle.jb_run.specs.declared.report.Report.{Report}
-use Rattle.jb_run.specs.Command.{CommandOf, IsCommand, IsUsage}
+use Rattle.jb_run.specs.declared.report.Refusal.{Refusal}
+use Rattle.jb_run.specs.declared.report.Answer.{Answer}
+use Rattle.jb_run.specs.declared.report.Answer.TheVariants.{Usage, ReadFault, NoMemory, Refused, Decided}
 use Rattle.jb_run.specs.Justified.{AreJustified}
-use Rattle.jb_run.specs.OutputText.{failure_count}
 use Rattle.jb_run.specs.Path.{class_path}
+use Rattle.jb_run.specs.Refusals.{IsReadAs, IsBuiltIn, Applies, AreRefusals}
 use Rattle.jb_run.specs.Sites.{IsSites}
 use Rattle.jb_run.specs.Violates.{RunsGoOn}
-
--- the status of the lines: 10 where one of them fails, else 0
-abbrev pub status_of : List Line → ℕ
-status_of lines = if failure_count lines == 0 then 0 else 10
-
--- the bytes are a class file with the thin method of the entry, no run of which is stuck, and the lines are for its sites,
--- in order, with verdicts that are true of it
-pub record AreLinesOf (bytes : List ℕ) (entry : MethodId) (lines : List Line) : Type 0 where
-  pub class : ClassFile
-  pub is_class : IsClass bytes class
-  pub method : ThinMethod
-  pub thin : Thin class entry method
-  pub sites : IsSites entry method.code (map (λ line. line.goal) lines)
-  pub goes_on : RunsGoOn method.code entry
-  pub justified : AreJustified method.code entry lines
-
--- the folder's answer is a class with the thin method of the entry, and the lines are for its sites
-abbrev pub HasLines : MethodId → Was → List Line → Type 0
-HasLines entry (Found bytes) lines = AreLinesOf bytes entry lines
-HasLines entry Absent lines = ⊥
-HasLines entry TooLong lines = ⊥
-
--- the folder's answer is no class with such a method
-abbrev pub HasNoLines : MethodId → Was → Type 0
-HasNoLines entry (Found bytes) = (class : ClassFile) → IsClass bytes class → (method : ThinMethod) → Thin class entry method → ⊥
-HasNoLines entry Absent = Unit {0}
-HasNoLines entry TooLong = Unit {0}
-
--- a class that is read is decided, with the status of its lines
-pub record IsDecided (entry : MethodId) (was : Was) (before : ℕ) (lines : List Line) : Type 0 where
-  pub has_lines : HasLines entry was lines
-  pub status : before ≡ status_of lines
-
--- any other is refused, with status 2 and no line
-pub record IsRefused (entry : MethodId) (was : Was) (before : ℕ) (lines : List Line) : Type 0 where
-  pub has_no_lines : HasNoLines entry was
-  pub status : before ≡ 2
-  pub none : lines ≡ []
-
--- what follows from the folder's answer
-abbrev pub Follows : MethodId → Was → ℕ → List Line → Type 0
-Follows entry was before lines = IsDecided entry was before lines ⊎ IsRefused entry was before lines
-
--- the report has the class that was asked, with the folder's answer, and what follows from it
-pub record HasReport (entry : MethodId) (was : Was) (before : ℕ) (report : Report) : Type 0 where
-  pub world : report.world.entries ≡ record { name = entry.class; was = was } ∷ []
-  pub follows : Follows entry was before report.verdicts
-
-abbrev pub Answered : MethodId → Was → ℕ → Option Report → Type 0
-Answered entry was before None = ⊥
-Answered entry was before (Some report) = HasReport entry was before report
 
 -- what a folder with this file at the path of the class answers
 abbrev pub was_of : Option (List ℕ) → Was
@@ -81,48 +35,76 @@ was_of (Some bytes) = if nat_lt longest_file (length bytes) then TooLong else Fo
 abbrev pub IsTold : Option (List File) → List ℕ → Was → Type 0
 IsTold told path was = IfSome told (λ files. was ≡ was_of (file_at files path))
 
--- the report is for the folder's answer at the path of the class of the entry
-pub record IsReport (told : Option (List File)) (dir : List ℕ) (entry : MethodId) (before : ℕ)
-    (report : Report) : Type 0 where
-  pub was : Was
-  pub answer : IsTold told (class_path dir entry.class) was
-  pub has_report : HasReport entry was before report
+-- the names that the folder is asked for: that of the entry's class, where it is not built in; none for made classes
+abbrev pub AsksFor : Mode → List ℕ → List (List ℕ) → Type 0
+AsksFor (modes.Make number) class names = names ≡ []
+AsksFor mode class names = (IsBuiltIn class × (names ≡ [])) ⊎ ((IsBuiltIn class → ⊥) × (names ≡ class ∷ []))
 
--- with a report, the words are a command, and the report is for its entry
-pub record IsReported (told : Option (List File)) (words : List (List ℕ)) (before : ℕ) (report : Report) : Type 0 where
-  pub dir : List ℕ
-  pub entry : MethodId
-  pub command : CommandOf words dir entry
-  pub report_is : IsReport told dir entry before report
+-- the world has the folder's answers to the names that a command asks for, in order, each once
+pub record IsLoad (told : Option (List File)) (command : Command) (world : World) : Type 0 where
+  pub asked : AsksFor command.mode command.entry.class (map (λ a. a.name) world.entries)
+  pub answers : AllByRecursion (λ a. IsTold told (class_path command.dir a.name) a.was) world.entries
 
--- The cause of the status before the write: 6 is free, and has no report; 1 comes where the words are no command; 3
--- where they
--- are one, and the read failed; any other comes from the report.
-abbrev pub Cause : Option (List File) → List (List ℕ) → ℕ → Option Report → Type 0
-Cause told words before None = (before ≡ 6) ⊎ (((before ≡ 1) × IsUsage words) ⊎ ((before ≡ 3) × IsCommand words))
-Cause told words before (Some report) = IsReported told words before report
+-- the lines are for the sites of the entry's method, in order, with verdicts that are true of it within the bounds; none of its runs is stuck
+pub record AreVerdicts (command : Command) (world : World) (lines : List Line) : Type 0 where
+  pub class : ClassFile
+  pub read : IsReadAs world command.entry.class class
+  pub method : ThinMethod
+  pub thin : Thin class command.entry method
+  pub sites : IsSites command.entry method.code (map (λ line. line.goal) lines)
+  pub goes_on : RunsGoOn method.code command.entry
+  pub justified : AreJustified command.bounds method.code command.entry lines
 
--- what one command's work leaves: a report, or a status that has none
-abbrev pub IsOutcome : Option (List File) → List ℕ → MethodId → ℕ → Option Report → Type 0
-IsOutcome told dir entry before None = (before ≡ 6) ⊎ (before ≡ 3)
-IsOutcome told dir entry before (Some report) = IsReport told dir entry before report
+-- the words are a command, and the world is what the folder answered to it
+pub record IsLoaded (told : Option (List File)) (words : List (List ℕ)) (command : Command) (world : World) : Type 0 where
+  pub command_is : IsCommand words command
+  pub load : IsLoad told command world
 
--- one path was asked for, where the asked paths are told
-abbrev pub AsksPath : Option (List (List ℕ)) → List ℕ → Option (List (List ℕ)) → Type 0
-AsksPath old path new = new ≡ option_map (λ paths. paths ++ path ∷ []) old
+-- refusals: exactly those that apply, of which there is one
+pub record IsRefusal (told : Option (List File)) (words : List (List ℕ)) (command : Command) (world : World)
+    (refusals : List Refusal) : Type 0 where
+  pub loaded : IsLoaded told words command world
+  pub refusals_are : AreRefusals command world refusals
+  pub some : refusals ≢ []
 
--- no path was asked for, or that one was, once
-abbrev pub AsksAtMost : Option (List (List ℕ)) → List ℕ → Option (List (List ℕ)) → Type 0
-AsksAtMost old path new = (new ≡ old) ⊎ AsksPath old path new
+-- verdicts: no refusal applies
+pub record IsDecision (told : Option (List File)) (words : List (List ℕ)) (command : Command) (world : World)
+    (lines : List Line) : Type 0 where
+  pub loaded : IsLoaded told words command world
+  pub none : (r : Refusal) → Applies command world r → ⊥
+  pub verdicts : AreVerdicts command world lines
 
--- the path of the class of the entry was asked for, once
-abbrev pub AsksOnce : Option (List (List ℕ)) → List (List ℕ) → Option (List (List ℕ)) → Type 0
-AsksOnce old words new = (dir : List ℕ) × (entry : MethodId) × CommandOf words dir entry
-    × AsksPath old (class_path dir entry.class) new
+-- Usage comes exactly where the words are no command, a fault of reading only where a name was asked for, refusals and
+-- verdicts as above, and want of memory at any time.
+abbrev pub Cause : Option (List File) → List (List ℕ) → Answer → Type 0
+Cause told words Usage = (command : Command) → IsCommand words command → ⊥
+Cause told words ReadFault =
+    (command : Command) × IsCommand words command × AsksFor command.mode command.entry.class (command.entry.class ∷ [])
+Cause told words NoMemory = Unit {0}
+Cause told words (Refused load refusals) = IsRefusal told words load.command load.world refusals
+Cause told words (Decided load lines) = IsDecision told words load.command load.world lines
 
--- no path was asked for, or the path of the class of the entry was, once
-abbrev pub AsksForEntry : Option (List (List ℕ)) → List (List ℕ) → Option (List (List ℕ)) → Type 0
-AsksForEntry old words new = (new ≡ old) ⊎ AsksOnce old words new
+-- the paths of the names of a world
+abbrev pub paths_of : Command → World → List (List ℕ)
+paths_of command world = map (λ a. class_path command.dir a.name) world.entries
+
+-- these paths were asked for, one after the other, where the asked paths are told
+abbrev pub AsksPaths : Option (List (List ℕ)) → List (List ℕ) → Option (List (List ℕ)) → Type 0
+AsksPaths old paths new = new ≡ option_map (λ before. before ++ paths) old
+
+-- no path was asked for, or that of the entry's class of the command
+abbrev pub AsksAtMost : Option (List (List ℕ)) → List (List ℕ) → Option (List (List ℕ)) → Type 0
+AsksAtMost old words new =
+    (new ≡ old)
+    ⊎ ((command : Command) × IsCommand words command × AsksFor command.mode command.entry.class (command.entry.class ∷ [])
+    × AsksPaths old (class_path command.dir command.entry.class ∷ []) new)
+
+-- the paths of the world's names were asked for, in order, each once; without a world one path at most
+abbrev pub Asks : Option (List (List ℕ)) → List (List ℕ) → Answer → Option (List (List ℕ)) → Type 0
+Asks old words Usage new = new ≡ old
+Asks old words (Refused load refusals) new = AsksPaths old (paths_of load.command load.world) new
+Asks old words (Decided load lines) new = AsksPaths old (paths_of load.command load.world) new
+Asks old words answer new = AsksAtMost old words new
 
 -- the text was put and the status is the one before, or a front of the text was put and the status is 4
 abbrev pub PutsText : Option (List ℕ) → List ℕ → ℕ → ℕ → Option (List ℕ) → Type 0

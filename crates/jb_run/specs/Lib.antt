@@ -1,14 +1,15 @@
 pub mod Bits
 pub mod Cause
 pub mod Clauses
-pub mod Command
+pub mod Answers
+pub mod Refusals
+pub mod Calls
 pub mod Verdicts
 pub mod Encoder
 pub mod Gate
 pub mod Justified
 pub mod Locals
 pub mod Machine
-pub mod OutputText
 pub mod Path
 pub mod Represents
 pub mod Satisfies
@@ -20,3 +21,4 @@ pub mod Violates
 pub mod Inputs
 pub mod IntLines
 pub mod InputText
+pub mod Laws

@@ -1,8 +1,9 @@
 -- Which inputs a thin method has, and what a run of one of them violates.
 use Rattle.cf_thin.specs.Instr.{Places}
-use Rattle.std.specs.Prelude.{◌≡◌, ℕ, ℤ, Bool, List, length, map, Some, All, FitsSigned}
+use Rattle.std.specs.Prelude.{◌≡◌, ◌≤◌, ℕ, ℤ, Bool, List, length, map, Some, All, FitsSigned}
 use Rattle.std.specs.Int.{w32}
 use Rattle.jv_base.specs.declared.input.Input.{Input}
+use Rattle.jv_base.specs.declared.method.Bounds.{Bounds}
 use Rattle.jv_base.specs.declared.method.Kind.{Kind}
 use Rattle.jv_base.specs.declared.method.MethodId.{MethodId}
 use Rattle.cf_thin.specs.Thin.{int_descriptor}
@@ -31,8 +32,13 @@ pub record RunViolates (code : Places) (ints : List ℤ) (pc : ℕ) (kind : Kind
   pub place : state.pc ≡ pc
   pub raised : step code state ≡ Raised kind
 
--- the run of an input violates a kind at a pc of the code
-pub record Violates (code : Places) (input : Input) (pc : ℕ) (kind : Kind) : Type 0 where
+-- the bounds have room for each run of a thin method: it has one frame, and no transfer of it goes back, so no counter rises
+abbrev pub HaveRoom : Bounds → Type 0
+HaveRoom bounds = 1 ≤ bounds.frames
+
+-- the run of an input violates a kind at a pc of the code, while within the bounds
+pub record Violates (bounds : Bounds) (code : Places) (input : Input) (pc : ℕ) (kind : Kind) : Type 0 where
+  pub within : HaveRoom bounds
   pub ints : List ℤ
   pub args : HasInts input ints
   pub run : RunViolates code ints pc kind

@@ -7,6 +7,8 @@ mod formula;
 mod frame;
 mod gates;
 mod int_bits;
+mod judging;
+mod laws;
 mod locals;
 mod machine;
 #[cfg(test)]
@@ -19,7 +21,6 @@ mod tests;
 mod text;
 mod top_call;
 mod verdicts;
-mod words;
 
 use crate::top_call::{run_alone, run_no_words};
 use io_edges::{DiskFolder, OutSink};

@@ -1,5 +1,7 @@
-// What a run found: the classes that were asked for, and a verdict for each site.
-use jv_base::{Goal, Input, List, Name};
+// What a run answers: what was asked for and what the folder said, and the refusals or the verdicts that follow.
+use cf_pool::What;
+use cl_words::Command;
+use jv_base::{Goal, Input, List, MethodId, Name};
 
 /// The exit status of a run.
 #[derive(Clone, Copy, Debug, PartialEq, Eq)]
@@ -26,6 +28,20 @@ pub struct World {
     pub entries: List<Asked>,
 }
 
+/// Why there are no verdicts.
+#[derive(Debug, Drop)]
+pub enum Refusal {
+    /// Runs cannot begin at the entry: its class is built in, or has no such method with code, or the method wants an
+    /// object of a class that has none.
+    NoEntry(MethodId),
+    /// There is no file of the class.
+    Missing(Name),
+    /// The file is none of a class of this name: the place in bytes, and what is wrong there.
+    Malformed(Name, u64, What),
+    /// No other refusal applies, and what is asked is not built yet.
+    Narrow,
+}
+
 /// What is known of an assertion: that no input violates it, or an input that does.
 #[derive(Debug, Drop)]
 pub enum Verdict {
@@ -39,18 +55,33 @@ pub struct Line {
     pub verdict: Verdict,
 }
 
+/// What was asked for, and what the folder answered.
 #[derive(Debug, Drop)]
-pub struct Report {
+pub struct Load {
+    pub command: Command,
     pub world: World,
-    pub verdicts: List<Line>,
 }
 
-/// What a run gives back: its exit status, the status before the text was put, the report where the class was asked
-/// without a fault, and the folder.
+/// What a run answers, before it is written.
+#[derive(Debug, Drop)]
+pub enum Answer {
+    /// The words are no command.
+    Usage,
+    /// The folder failed.
+    ReadFault,
+    /// Memory ran out.
+    NoMemory,
+    /// These refusals apply, at least one.
+    Refused(Load, List<Refusal>),
+    /// No refusal applies, and each site has its verdict.
+    Decided(Load, List<Line>),
+}
+
+/// What a run gives back: its exit status, its answer, and the folder. The status is that of the answer, or 4 where the
+/// text was not written whole.
 #[derive(Debug, Drop)]
 pub struct Ran<F> {
     pub status: Status,
-    pub before: Status,
-    pub report: Option<Report>,
+    pub answer: Answer,
     pub folder: F,
 }

@@ -3,15 +3,16 @@ ghost use Rattle.std.specs.Prelude.{◌≡◌, ◌++◌, ◌==◌, All, IfOk, On
 ghost use Rattle.std.specs.List.{flat_map};
 ghost use Rattle.serde_json.specs.Data.{array};
 ghost use Rattle.serde_json.specs.View.{view, items_of};
-ghost use Rattle.jb_run.specs.Command.{texts};
 ghost use Rattle.jb_run.specs.Inputs.{IsIntTree};
 ghost use Rattle.jb_run.specs.InputText.{argument_json, input_json, input_text};
-ghost use Rattle.jb_run.specs.IntLines.{IsIntVerdict, AreIntLines};
-ghost use Rattle.jb_run.specs.OutputText.{verdict_text, line_text, fails, failure_count, counts_text, plain_text, refusal_text, refusal_of, missing_text, failure_text, report_text, entry_word, output_text};
+ghost use Rattle.jb_run.specs.IntLines.{IsIntVerdict, AreIntLines, HasIntLines};
+ghost use Rattle.jb_run.specs.Answers.{verdict_text, line_text, fails, failure_count, counts_text, bound_text, run_bounds, value_bounds, bounds_text, entry_line, plain_text, what_word, no_entry_text, missing_text, malformed_place, malformed_text, refusal_text, failure_text, answer_text, status_of};
 
-use crate::report::{Asked, Line, Report, Status, Verdict, Was};
+use crate::report::{Answer, Line, Refusal, Status, Verdict};
+use cf_pool::What;
+use cl_words::Command;
 use itoa::Buffer;
-use jv_base::{Input, Mem, Name, Tree, push_name_text, site_text};
+use jv_base::{Bounds, Input, Mem, MethodId, Name, Tree, entry_text, push_name_text, site_text};
 use serde_json::{Value, json};
 use std::alloc::Global;
 
@@ -80,7 +81,7 @@ fn push_verdict(alloc: Global, out: &mut String, verdict: &Verdict) -> Mem<()>
     }
 }
 
-#[tactic(auto, unfolding(crate::specs::OutputText::line_text))]
+#[tactic(auto, unfolding(crate::specs::Answers::line_text))]
 fn push_line(alloc: Global, out: &mut String, line: &Line) -> Mem<()>
     requires { IsIntVerdict line.now.verdict }
     ensures { OnOk result (string_bytes out.new ≡ string_bytes out.old ++ line_text line.now) }
@@ -106,6 +107,13 @@ fn push_number(out: &mut String, number: usize) -> Mem<()>
 {
     let mut buffer = Buffer::new();
     out.push_str(buffer.format(number))
+}
+
+fn push_place(out: &mut String, place: u64) -> Mem<()>
+    ensures { OnOk result (string_bytes out.new ≡ string_bytes out.old ++ decimal place) }
+{
+    let mut buffer = Buffer::new();
+    out.push_str(buffer.format(place))
 }
 
 fn is_failure(line: &Line) -> bool
@@ -135,18 +143,92 @@ fn push_counts(out: &mut String, lines: &[Line]) -> Mem<()>
     Ok(())
 }
 
-fn push_plain(alloc: Global, out: &mut String, entry: &str, lines: &[Line]) -> Mem<()>
-    requires { AreIntLines lines.now }
-    ensures { OnOk result (string_bytes out.new ≡ string_bytes out.old ++ plain_text entry.now lines.now) }
+fn push_bound(out: &mut String, name: &str, bound: u8) -> Mem<()>
+    ensures { OnOk result (string_bytes out.new ≡ string_bytes out.old ++ bound_text name.now bound) }
 {
+    add(out, name)?;
+    push_number(out, usize::from(bound))
+}
+
+fn push_run_bounds(out: &mut String, bounds: &Bounds) -> Mem<()>
+    ensures { OnOk result (string_bytes out.new ≡ string_bytes out.old ++ run_bounds bounds.now) }
+{
+    push_bound(out, "bounds unwind=", bounds.unwind)?;
+    push_bound(out, " frames=", bounds.frames)?;
+    Ok(())
+}
+
+fn push_value_bounds(out: &mut String, bounds: &Bounds) -> Mem<()>
+    ensures { OnOk result (string_bytes out.new ≡ string_bytes out.old ++ value_bounds bounds.now) }
+{
+    push_bound(out, " depth=", bounds.depth)?;
+    push_bound(out, " string=", bounds.string)?;
+    push_bound(out, " array=", bounds.array)?;
+    add(out, "\n")?;
+    Ok(())
+}
+
+fn push_bounds(out: &mut String, bounds: &Bounds) -> Mem<()>
+    ensures { OnOk result (string_bytes out.new ≡ string_bytes out.old ++ bounds_text bounds.now) }
+{
+    push_run_bounds(out, bounds)?;
+    push_value_bounds(out, bounds)?;
+    Ok(())
+}
+
+fn push_entry_line(alloc: Global, out: &mut String, entry: &MethodId) -> Mem<()>
+    ensures { OnOk result (string_bytes out.new ≡ string_bytes out.old ++ entry_line entry.now) }
+{
+    let text = entry_text(alloc, entry)?;
     add(out, "entry ")?;
-    add(out, entry)?;
-    add(
-        out,
-        "\nbounds unwind=16 frames=16 depth=2 string=32 array=16\n",
-    )?;
+    add(out, text.as_str())?;
+    add(out, "\n")?;
+    Ok(())
+}
+
+fn push_plain(alloc: Global, out: &mut String, command: &Command, lines: &[Line]) -> Mem<()>
+    requires { AreIntLines lines.now }
+    ensures { OnOk result (string_bytes out.new ≡ string_bytes out.old ++ plain_text command.now lines.now) }
+{
+    push_entry_line(alloc, out, &command.entry)?;
+    push_bounds(out, &command.bounds)?;
     push_lines(alloc, out, lines)?;
     push_counts(out, lines)?;
+    Ok(())
+}
+
+fn word_of(what: What) -> &'static str
+    ensures { result.now ≡ what_word what }
+{
+    match what {
+        What::Truncated => "Truncated",
+        What::BadMagic => "BadMagic",
+        What::BadVersion => "BadVersion",
+        What::BadTag => "BadTag",
+        What::BadUtf8 => "BadUtf8",
+        What::BadLength => "BadLength",
+        What::Extra => "Extra",
+        What::BadIndex => "BadIndex",
+        What::BadName => "BadName",
+        What::BadDesc => "BadDesc",
+        What::Duplicate => "Duplicate",
+        What::CodeRule => "CodeRule",
+        What::WrongName => "WrongName",
+        What::BadOpcode => "BadOpcode",
+        What::BadTarget => "BadTarget",
+        What::TooLong => "TooLong",
+        What::Circular => "Circular",
+        What::BadSuper => "BadSuper",
+    }
+}
+
+fn push_no_entry(alloc: Global, out: &mut String, entry: &MethodId) -> Mem<()>
+    ensures { OnOk result (string_bytes out.new ≡ string_bytes out.old ++ no_entry_text entry.now) }
+{
+    let text = entry_text(alloc, entry)?;
+    add(out, "refused: no entry ")?;
+    add(out, text.as_str())?;
+    add(out, "\n")?;
     Ok(())
 }
 
@@ -159,74 +241,76 @@ fn push_missing(out: &mut String, name: &Name) -> Mem<()>
     Ok(())
 }
 
-fn push_refusal(out: &mut String, was: &Was, name: &Name) -> Mem<()>
-    ensures { OnOk result (string_bytes out.new ≡ string_bytes out.old ++ refusal_of was.now name.now) }
+fn push_malformed_place(out: &mut String, name: &Name, place: u64) -> Mem<()>
+    ensures { OnOk result (string_bytes out.new ≡ string_bytes out.old ++ malformed_place name.now place) }
 {
-    match was {
-        Was::Absent => push_missing(out, name),
-        Was::TooLong => add(out, "refused: not built yet\n"),
-        Was::Found(_) => add(out, "refused: not built yet\n"),
+    add(out, "refused: malformed ")?;
+    push_name_text(out, name)?;
+    add(out, " at ")?;
+    push_place(out, place)?;
+    Ok(())
+}
+
+fn push_malformed(out: &mut String, name: &Name, place: u64, what: What) -> Mem<()>
+    ensures { OnOk result (string_bytes out.new ≡ string_bytes out.old ++ malformed_text name.now place what) }
+{
+    push_malformed_place(out, name, place)?;
+    add(out, ": ")?;
+    add(out, word_of(what))?;
+    add(out, "\n")?;
+    Ok(())
+}
+
+fn push_refusal(alloc: Global, out: &mut String, refusal: &Refusal) -> Mem<()>
+    ensures { OnOk result (string_bytes out.new ≡ string_bytes out.old ++ refusal_text refusal.now) }
+{
+    match refusal {
+        Refusal::NoEntry(entry) => push_no_entry(alloc, out, entry),
+        Refusal::Missing(name) => push_missing(out, name),
+        Refusal::Malformed(name, place, what) => push_malformed(out, name, *place, *what),
+        Refusal::Narrow => add(out, "refused: not built yet\n"),
     }
 }
 
-fn push_refusals(out: &mut String, entries: &[Asked]) -> Mem<()>
-    ensures { OnOk result (string_bytes out.new ≡ string_bytes out.old ++ flat_map refusal_text entries.now) }
+fn push_refusals(alloc: Global, out: &mut String, refusals: &[Refusal]) -> Mem<()>
+    ensures { OnOk result (string_bytes out.new ≡ string_bytes out.old ++ flat_map refusal_text refusals.now) }
 {
-    for asked in entries {
-        push_refusal(out, &asked.was, &asked.name)?;
+    for refusal in refusals {
+        push_refusal(alloc, out, refusal)?;
     }
     Ok(())
 }
 
-// The second word, or nothing.
-fn entry_of(words: &[String]) -> &str
-    ensures { result.now ≡ entry_word (texts words.now) }
+/// The status of an answer, before its text is put.
+pub fn status_of(answer: &Answer) -> Status
+    ensures { result.0 ≡ status_of answer.now }
 {
-    match words {
-        [_, entry, ..] => entry.as_str(),
-        _ => "",
+    match answer {
+        Answer::Usage => Status(1),
+        Answer::ReadFault => Status(3),
+        Answer::NoMemory => Status(6),
+        Answer::Refused(_, _) => Status(2),
+        Answer::Decided(_, lines) if failures(lines.as_slice()) == 0 => Status(0),
+        Answer::Decided(_, _) => Status(10),
     }
 }
 
-fn push_report(
-    alloc: Global,
-    out: &mut String,
-    words: &[String],
-    before: Status,
-    report: &Report,
-) -> Mem<()>
-    requires { AreIntLines report.now.verdicts }
-    ensures { OnOk result (string_bytes out.new ≡ string_bytes out.old ++ report_text (texts words.now) before.0 report.now) }
+/// The text of an answer.
+pub fn output(alloc: Global, answer: &Answer) -> Mem<String>
+    requires { HasIntLines answer.now }
+    ensures { IfOk result (λ text. string_bytes text ≡ answer_text answer.now) }
 {
-    if before.0 == 2 {
-        push_refusals(out, report.world.entries.as_slice())
-    } else {
-        push_plain(alloc, out, entry_of(words), report.verdicts.as_slice())
-    }
-}
-
-/// The text for the words, the status before the write, and the report.
-pub fn output(
-    alloc: Global,
-    words: &[String],
-    before: Status,
-    report: &Option<Report>,
-) -> Mem<String>
-    requires { IfSome report.now (λ r. AreIntLines r.verdicts) }
-    ensures { IfOk result (λ text. string_bytes text ≡ output_text (texts words.now) before.0 report.now) }
-{
-    match before.0 {
-        1 => String::from_str(alloc, "usage: jbmc [OPTIONS] DIR ENTRY\n"),
-        3 => String::from_str(alloc, "fault: read\n"),
-        6 => String::from_str(alloc, NO_MEMORY),
-        _ => {
-            let mut out = String::new(alloc);
-            if let Some(report) = report {
-                push_report(alloc, &mut out, words, before, report)?;
-            }
-            Ok(out)
+    let mut out = String::new(alloc);
+    match answer {
+        Answer::Usage => add(&mut out, "usage: jbmc [OPTIONS] DIR ENTRY\n")?,
+        Answer::ReadFault => add(&mut out, "fault: read\n")?,
+        Answer::NoMemory => add(&mut out, NO_MEMORY)?,
+        Answer::Refused(_, refusals) => push_refusals(alloc, &mut out, refusals.as_slice())?,
+        Answer::Decided(load, lines) => {
+            push_plain(alloc, &mut out, &load.command, lines.as_slice())?
         }
     }
+    Ok(out)
 }
 
 /// The text for want of memory.

@@ -1,6 +1,7 @@
 // A verdict for each site of a thin method.
 ghost use Rattle.std.specs.Prelude.{◌≡◌, ◌≤◌, ℕ, ℤ, Bool, List, length, map, IfOk};
 ghost use Rattle.cf_thin.specs.Thin.{int_descriptor};
+ghost use Rattle.jv_base.specs.declared.method.Bounds.{Bounds};
 ghost use Rattle.cf_thin.specs.ThinCode.{HasInstrs, ThinCode};
 ghost use Rattle.jb_run.specs.Verdicts.{IsVerdictBy, AreVerdictsBy};
 ghost use Rattle.jb_run.specs.Justified.{AreJustified};
@@ -8,7 +9,7 @@ ghost use Rattle.jb_run.specs.Satisfies.{bit_value};
 ghost use Rattle.jb_run.specs.Shown.{ShowsInt, ShowInts};
 ghost use Rattle.jb_run.specs.Sites.{IsSites};
 ghost use Rattle.jb_run.specs.Solved.{value_at};
-ghost use Rattle.jb_run.specs.Violates.{HasInts, RunsGoOn};
+ghost use Rattle.jb_run.specs.Violates.{HasInts, HaveRoom, RunsGoOn};
 
 use crate::encoding::{Encoding, encode};
 use crate::gates::Bit;
@@ -84,7 +85,7 @@ pub fn verdicts(
     requires instrs { HasInstrs code.now }
     ensures sites { IfOk result (λ lines. IsSites method.now code.now (map (λ line. line.goal) lines)) }
     ensures goes_on { IfOk result (λ lines. (gives_int : Bool) (max_stack max_locals : ℕ) → method.now.desc ≡ int_descriptor params gives_int → ThinCode code.now params gives_int max_stack max_locals → RunsGoOn code.now method.now) }
-    ensures justified { IfOk result (λ lines. (gives_int : Bool) (max_stack max_locals : ℕ) → method.now.desc ≡ int_descriptor params gives_int → ThinCode code.now params gives_int max_stack max_locals → AreJustified code.now method.now lines) }
+    ensures justified { IfOk result (λ lines. (gives_int : Bool) (max_stack max_locals : ℕ) → method.now.desc ≡ int_descriptor params gives_int → ThinCode code.now params gives_int max_stack max_locals → (bounds : Bounds) → HaveRoom bounds → AreJustified bounds code.now method.now lines) }
 {
     let encoding = encode(alloc, code, params)?;
     let goals = sites(alloc, method, code)?;

@@ -1,4 +1,4 @@
-use Rattle.jb_run.specs.OutputText.{counts_text}
+use Rattle.jb_run.specs.Answers.{counts_text}
 use Rattle.jv_list.proofs.PieceLemmas.{five_pieces}
 use Rattle.jb_run.proofs.text.push_counts.Goals as goal
 

@@ -1,4 +1,4 @@
-use Rattle.jb_run.specs.OutputText.{failure_text}
+use Rattle.jb_run.specs.Answers.{failure_text}
 use Rattle.jv_list.proofs.PieceLemmas.{three_pieces}
 use Rattle.jb_run.proofs.text.push_failure.Goals as goal
 

@@ -1,7 +1,7 @@
 -- The lines so far were added.
 use Rattle.std.proofs.Common.{◌≡◌, ◌++◌, take, string_bytes}
 use Rattle.std.specs.List.{flat_map}
-use Rattle.jb_run.specs.OutputText.{line_text}
+use Rattle.jb_run.specs.Answers.{line_text}
 use Rattle.jb_run.proofs.text.push_lines.Given as goal
 
 abbrev pub invariant-loop-line : goal.invariant-loop-line

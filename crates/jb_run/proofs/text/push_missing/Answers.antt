@@ -1,4 +1,4 @@
-use Rattle.jb_run.specs.OutputText.{missing_text}
+use Rattle.jb_run.specs.Answers.{missing_text}
 use Rattle.jv_list.proofs.PieceLemmas.{three_pieces}
 use Rattle.jb_run.proofs.text.push_missing.Goals as goal
 

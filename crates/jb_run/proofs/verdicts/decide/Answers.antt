@@ -9,15 +9,15 @@ use Rattle.jb_run.proofs.VerdictLemmas.{unsat_justified, sat_justified}
 use Rattle.jb_run.proofs.verdicts.decide.Goals as goal
 
 pub returns-in-Unsat : goal.returns-in-Unsat
-returns-in-Unsat c code method of =
+returns-in-Unsat c code method bounds of room =
     let encoding = c.args.encoding.now in
     let answered =
     subst (λ (a : Answer). IsRight encoding.formula c.goal-bit.result a) c.in-Unsat.is c.in_ok-solve.ensures in
     let right = subst (λ (b : Bit). IsRight encoding.formula b Unsat) c.goal-bit.ensures answered in
-    unsat_justified encoding code method c.args.goal.now.site.pc c.args.goal.now.kind right of
+    unsat_justified encoding code method bounds c.args.goal.now.site.pc c.args.goal.now.kind right of
 
 pub returns-in_ok-input-in-Sat : goal.returns-in_ok-input-in-Sat
-returns-in_ok-input-in-Sat c code method of =
+returns-in_ok-input-in-Sat c code method bounds of room =
     let encoding = c.args.encoding.now in
     let values = c.in-Sat.assignment.items in
     let answered =
@@ -29,5 +29,5 @@ returns-in_ok-input-in-Sat c code method of =
     shows.2 in
     let shown = subst (λ (words : List IntBits). ShowInts (value_at values) words shows.0) c.as_slice.ensures by_values
     in
-    sat_justified encoding code method c.args.goal.now.site.pc c.args.goal.now.kind values c.in_ok-input-in-Sat.input
-    shows.0 right.1 right.2 shows.1 shown of
+    sat_justified encoding code method bounds c.args.goal.now.site.pc c.args.goal.now.kind values
+    c.in_ok-input-in-Sat.input shows.0 right.1 right.2 shows.1 shown of room

@@ -25,7 +25,7 @@ returns-clause-justified c =
     let code = c.args.code.now in
     let method = c.args.method.now in
     IfOk-weaker c.lines_for.result (AreVerdictsBy encoding) _
-    (λ lines decided gives_int max_stack max_locals descriptor thin.
+    (λ lines decided gives_int max_stack max_locals descriptor thin bounds room.
     let of : IsEncodingOf code method encoding =
     record {
       params = c.args.params;
@@ -33,6 +33,6 @@ returns-clause-justified c =
       descriptor = descriptor;
       represents = c.in_ok-encoding.ensures gives_int max_stack max_locals thin;
     } in
-    All-weaker (λ (line : Line). IsVerdictBy encoding line.goal line.verdict) (IsJustifiedLine code method)
-    (λ line one. one code method of) lines decided)
+    All-weaker (λ (line : Line). IsVerdictBy encoding line.goal line.verdict) (IsJustifiedLine bounds code method)
+    (λ line one. one code method bounds of room) lines decided)
     c.lines_for.ensures.justified
