@@ -35,7 +35,7 @@ const FRONT: &str = "
 const METHOD: &str = "0021 0002 0002 0000 0000 0001 0009 0003 0005 0001 0006";
 
 /// A file with one method. Its code is at place 164, and its rows are behind that and their count.
-fn with_code<R: Abort + AllocGlobal>(rt: &R, code: &[u8], table: &[u8]) -> Vec<u8> {
+pub fn with_code<R: Abort + AllocGlobal>(rt: &R, code: &[u8], table: &[u8]) -> Vec<u8> {
     let mut bytes = bytes_of(rt, FRONT);
     let code_size = u32::try_from(code.len()).expect(rt, "a length of four bytes");
     let table_size = u32::try_from(table.len()).expect(rt, "a length of four bytes");

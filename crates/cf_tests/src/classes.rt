@@ -8,7 +8,7 @@ use cf_structure::ClassFault;
 use std::process::Abort;
 
 /// The file of javac with bytes in the place of its own, or behind them: places with the bytes that stand there.
-fn changed<R: Abort + AllocGlobal>(rt: &R, changes: &str) -> Vec<u8> {
+pub fn changed<R: Abort + AllocGlobal>(rt: &R, changes: &str) -> Vec<u8> {
     let mut bytes = bytes_of(rt, F_PLAIN);
     for change in changes.split_whitespace() {
         let (place, digits) = cut(rt, change, ':');

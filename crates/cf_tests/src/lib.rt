@@ -40,6 +40,10 @@ mod thin_classes;
 #[cfg(test)]
 mod thin_code;
 #[cfg(test)]
+mod told;
+#[cfg(test)]
 mod transfers;
 #[cfg(test)]
 mod units;
+#[cfg(test)]
+mod written;
