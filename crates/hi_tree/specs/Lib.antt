@@ -11,5 +11,6 @@ pub mod Superinterfaces
 pub mod Resolution
 pub mod Selection
 pub mod Worlds
+pub mod Inputs
 pub mod Laws
 pub mod Calls
