@@ -1,5 +1,5 @@
 -- What holds of resolution and selection.
-use Rattle.std.proofs.Common.{◌≡◌, ℕ, Bool, true, false, not, ◌&&◌, ◌||◌, List, [], ◌∷◌, ◌⊎◌, inl, inr, Contains}
+use Rattle.std.proofs.Common.{◌≡◌, ℕ, Bool, true, false, not, ◌&&◌, List, [], inl, inr}
 use Rattle.std.proofs.Common.{Option}
 use Rattle.std.proofs.Common.{Some, None, is_some, sym, ◌∙◌, ap, subst, refl, arith, true≢false}
 use Rattle.std.specs.Str.{bytes_eq}
@@ -22,7 +22,7 @@ use Rattle.hi_tree.specs.Supers.{sought_some}
 use Rattle.hi_tree.specs.Sought.{override_sought, can_override}
 use Rattle.hi_tree.specs.Methods.{declared, declared_some, is_virtual, is_virtual_at, is_virtual_some, has_body_some}
 use Rattle.hi_tree.specs.Methods.{is_interface_class}
-use Rattle.hi_tree.specs.Superinterfaces.{offers, IsLeast}
+use Rattle.hi_tree.specs.Superinterfaces.{offers}
 use Rattle.hi_tree.specs.Resolution.{holder, own_climb, IsDeclaredBy, own, default, any, IsResolved}
 use Rattle.hi_tree.specs.Selection.{IsDeclared, HasBody, override_climb, IsSelectedIn, IsSelected}
 use Rattle.hi_tree.specs.Selection as selection

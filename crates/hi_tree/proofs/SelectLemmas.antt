@@ -1,7 +1,6 @@
 -- What selection answers, from what is chosen.
-use Rattle.std.proofs.Common.{◌≡◌, ℕ, Bool, true, false, List, Option, Some, None, sym, ◌∙◌, ap, subst, refl}
+use Rattle.std.proofs.Common.{◌≡◌, ℕ, Bool, true, false, List, Option, Some, None, sym, ◌∙◌, subst, refl}
 use Rattle.std.proofs.Common.{true≢false}
-use Rattle.std.proofs.lemmas.Option.{same_Some, none-some}
 use Rattle.cf_class.specs.declared.class_file.ClassFile.{ClassFile}
 use Rattle.jv_base.specs.declared.method.MethodId.{MethodId}
 use Rattle.hi_tree.specs.declared.declared.Access.{Access}
@@ -17,7 +16,7 @@ use Rattle.hi_tree.specs.Faults.{IsWalkFault}
 use Rattle.hi_tree.specs.Methods.{is_virtual, is_virtual_at, declared_some, has_body_some}
 use Rattle.hi_tree.specs.Superinterfaces.{whole_climb}
 use Rattle.hi_tree.specs.Resolution.{holder}
-use Rattle.hi_tree.specs.Selection.{IsDeclared, HasBody, IsLeftOpen, override_climb, IsSelectedIn, itself, override}
+use Rattle.hi_tree.specs.Selection.{IsDeclared, HasBody, IsLeftOpen, override_climb, IsSelectedIn, override}
 use Rattle.hi_tree.specs.Selection.{default, IsSelectFault, unknown, undeclared, in_own, above, hidden, none, two}
 use Rattle.hi_tree.specs.Selection.{memory}
 use Rattle.hi_tree.specs.Walks.{IsClean, Stops, found}
