@@ -1,7 +1,6 @@
 -- A walk of the code is a walk of the definitions.
-use Rattle.std.proofs.Common.{◌≡◌, ℕ, ◌<◌, Bool, true, false, List, [], ◌∷◌, ◌⊎◌, inl, inr, Contains, Option, Some}
-use Rattle.std.proofs.Common.{None, sym, ◌∙◌, ap, subst, refl, arith, is_some, true≢false}
-use Rattle.std.specs.Prelude.{IsTrue}
+use Rattle.std.proofs.Common.{◌≡◌, ℕ, ◌<◌, Bool, true, false, List, [], ◌∷◌, inl, inr, Contains}
+use Rattle.std.proofs.Common.{None, sym, ◌∙◌, ap, subst, arith}
 use Rattle.std.proofs.lemmas.Option.{none-some, slice_get_within}
 use Rattle.cf_class.specs.declared.class_file.ClassFile.{ClassFile}
 use Rattle.hi_tree.specs.declared.known.Up.{Up}
@@ -14,13 +13,14 @@ use Rattle.hi_tree.specs.declared.fault.TreeFault.TheVariants as faults
 use Rattle.hi_tree.specs.Classes.{Known}
 use Rattle.hi_tree.specs.Supers.{climb}
 use Rattle.hi_tree.specs.Faults.{IsWalkFault}
-use Rattle.hi_tree.specs.Walks.{Climb, IsAbove, found, not_known, Stops}
+use Rattle.hi_tree.specs.Walks.{Climb, found, not_known, Stops}
 use Rattle.hi_tree.specs.Walks.{missing, here}
 use Rattle.hi_tree.specs.Calls.Steps.{Step, climbed, IsMarked, above_name}
-use Rattle.hi_tree.specs.Calls.Walking.{steps_of, mark_of, Comes, FailsAt, Leads, IsWalked}
-use Rattle.hi_tree.proofs.UnderWay.{names_of, IsUnderWay}
+use Rattle.hi_tree.specs.Calls.Walking.{steps_of, mark_of, names_met, Comes, FailsAt, Leads, IsWalked}
+use Rattle.hi_tree.proofs.UnderWay.{names_of, IsUnderWay, IsDone}
 use Rattle.hi_tree.proofs.StepLemmas.{stops, comes_again, not_on_path, skips, pushes, pops}
-use Rattle.hi_tree.proofs.EndLemmas.{begins, ends_clean, met_above}
+use Rattle.hi_tree.proofs.EndLemmas.{begins}
+use Rattle.hi_tree.proofs.DoneLemmas.{done_begins, done_pushes, done_pops, done_all}
 use Rattle.hi_tree.proofs.MeasureLemmas.{left, skip_less, push_less, pop_less}
 use Rattle.hi_tree.proofs.FrameLemmas.{universe, known_place}
 
@@ -28,8 +28,9 @@ module _ (classes : List ClassFile) (up : Up) (sought : List ℕ → Known → B
   abbrev w : Climb
   w = climb classes up sought
 
-  abbrev pub Under : Walk → Type 0
-  Under walk = IsUnderWay w start (mark_of walk.marks) (steps_of up walk.frames)
+  pub record Under (walk : Walk) : Type 0 where
+    pub way : IsUnderWay w start (mark_of walk.marks) (steps_of up walk.frames)
+    pub done : IsDone w (mark_of walk.marks) (names_met walk.done)
 
   abbrev pub size_of : Walk → ℕ
   size_of walk = left w.supers (universe classes) (mark_of walk.marks) (steps_of up walk.frames)
@@ -39,7 +40,7 @@ module _ (classes : List ClassFile) (up : Up) (sought : List ℕ → Known → B
 
   -- the first class
   module _ (old new : Walk) (no_marks : (q : List ℕ) → mark_of old.marks q ≡ None)
-      (no_frames : steps_of up old.frames ≡ []) where
+      (no_frames : steps_of up old.frames ≡ []) (no_done : names_met old.done ≡ []) where
     pub start_found : Comes w up start old new true → Stops w start (found start)
     start_found comes = here [] start (nowhere start) comes.1 comes.2
 
@@ -56,38 +57,35 @@ module _ (classes : List ClassFile) (up : Up) (sought : List ℕ → Known → B
     start_passes (inr pushed) =
         let steps = pushed.4 ∙ ap (λ
         (l : List Step). record { name = start; above = w.supers start; next = 0 } ∷ l) no_frames in
-        subst (λ (l : List Step). IsUnderWay w start (mark_of new.marks) l) (sym steps)
-        (begins w start (mark_of old.marks) (mark_of new.marks) no_marks pushed.3 pushed.1 pushed.2)
+        record {
+          way = subst (λ (l : List Step). IsUnderWay w start (mark_of new.marks) l) (sym steps)
+              (begins w start (mark_of old.marks) (mark_of new.marks) no_marks pushed.3 pushed.1 pushed.2);
+          done = subst (λ (l : List (List ℕ)). IsDone w (mark_of new.marks) l)
+              (sym (ap (λ (l : List Above). names_met l) pushed.5 ∙ no_done))
+              (done_begins w start (mark_of old.marks) (mark_of new.marks) no_marks pushed.3);
+        }
 
   as_steps : (old : Walk) (s : Step) (ss : List Step) → steps_of up old.frames ≡ s ∷ ss → Under old
       → IsUnderWay w start (mark_of old.marks) (s ∷ ss)
-  as_steps old s ss e is = subst (λ (l : List Step). IsUnderWay w start (mark_of old.marks) l) e is
+  as_steps old s ss e is = subst (λ (l : List Step). IsUnderWay w start (mark_of old.marks) l) e is.way
 
   module _ (old : Walk) (is : Under old) where
-    pub over : (new : Walk) → Leads up old new next.Over → IsWalked w start (walked.Clean new.marks)
-    over new leads = subst (λ (x : Walk). IsWalked w start (walked.Clean x.marks)) (sym leads.1)
-        (ends_clean w start (mark_of old.marks) ended, λ q. (met q, back q))
-      where
-        ended : IsUnderWay w start (mark_of old.marks) []
-        ended = subst (λ (l : List Step). IsUnderWay w start (mark_of old.marks) l) leads.0 is
-
-        met : (q : List ℕ) → IsTrue (is_some (mark_of old.marks q)) → (q ≡ start) ⊎ IsAbove w.supers start q
-        met q marked = by (mark_of old.marks q) refl
-          where
-            by : (o : Option Bool) → mark_of old.marks q ≡ o → (q ≡ start) ⊎ IsAbove w.supers start q
-            by (Some mark) e = ended.reached q mark e
-            by None e = absurd (true≢false (sym marked ∙ ap is_some e))
-
-        back : (q : List ℕ) → (q ≡ start) ⊎ IsAbove w.supers start q → IsTrue (is_some (mark_of old.marks q))
-        back q is_there = ap is_some (met_above w start (mark_of old.marks) ended q is_there)
+    pub over : (new : Walk) → Leads up old new next.Over → IsWalked w start (walked.Clean new.done)
+    over new leads = subst (λ (x : Walk). IsWalked w start (walked.Clean x.done)) (sym leads.1)
+        (done_all w start (mark_of old.marks) (names_met old.done)
+        (subst (λ (l : List Step). IsUnderWay w start (mark_of old.marks) l) leads.0 is.way) is.done)
 
     pub left_under : (new : Walk) → Leads up old new next.Left → Under new
-    left_under new (s, ss, steps, none, rest, set) =
-        subst (λ (l : List Step). IsUnderWay w start (mark_of new.marks) l) (sym rest)
-        (pops w start (mark_of old.marks) s ss (as_steps old s ss steps is) (mark_of new.marks) none set)
+    left_under new (s, ss, steps, none, rest, set, done) = record {
+      way = subst (λ (l : List Step). IsUnderWay w start (mark_of new.marks) l) (sym rest)
+          (pops w start (mark_of old.marks) s ss (as_steps old s ss steps is) (mark_of new.marks) none set);
+      done = subst (λ (l : List (List ℕ)). IsDone w (mark_of new.marks) l) (sym done)
+          (done_pops w start (mark_of old.marks) (mark_of new.marks) (names_met old.done) s ss
+          (as_steps old s ss steps is) none is.done set);
+    }
 
     pub left_less : (new : Walk) → Leads up old new next.Left → size_of new < size_of old
-    left_less new (s, ss, steps, none, rest, set) =
+    left_less new (s, ss, steps, none, rest, set, done) =
         let less = pop_less w.supers (universe classes) (mark_of old.marks) (mark_of new.marks) s ss set in
         rw (steps, rest) less
 
@@ -103,6 +101,11 @@ module _ (classes : List ClassFile) (up : Up) (sought : List ℕ → Known → B
 
       same_marks : (q : List ℕ) → mark_of mid.marks q ≡ mark_of old.marks q
       same_marks q = ap (λ m. mark_of m q) leads.5
+
+      done_mid : IsDone w (mark_of mid.marks) (names_met mid.done)
+      done_mid =
+          subst (λ m. IsDone w (mark_of m) (names_met mid.done)) (sym leads.5)
+          (subst (λ (l : List Above). IsDone w (mark_of old.marks) (names_met l)) (sym leads.6) is.done)
 
       pub above_found : (new : Walk) → Comes w up (above_name a) mid new true → IsWalked w start (walked.Found a)
       above_found new comes =
@@ -134,9 +137,11 @@ module _ (classes : List ClassFile) (up : Up) (sought : List ℕ → Known → B
       above_under new (inl done) =
           let skipped = skips w start (mark_of old.marks) s ss under (above_name a) leads.3 (sym (same_marks
           (above_name a)) ∙ done.0) in
-          subst (λ (x : Walk). Under x) (sym done.1)
-          (subst (λ m. IsUnderWay w start (mark_of m) (steps_of up mid.frames)) (sym leads.5)
-          (subst (λ (l : List Step). IsUnderWay w start (mark_of old.marks) l) (sym leads.4) skipped))
+          subst (λ (x : Walk). Under x) (sym done.1) (record {
+            way = subst (λ m. IsUnderWay w start (mark_of m) (steps_of up mid.frames)) (sym leads.5)
+                (subst (λ (l : List Step). IsUnderWay w start (mark_of old.marks) l) (sym leads.4) skipped);
+            done = done_mid;
+          })
       above_under new (inr pushed) =
           let steps = pushed.4 ∙ ap (λ (l : List Step). record {
             name = above_name a;
@@ -144,9 +149,14 @@ module _ (classes : List ClassFile) (up : Up) (sought : List ℕ → Known → B
                 (above_name a);
             next = 0;
           } ∷ l) leads.4 in
-          subst (λ (l : List Step). IsUnderWay w start (mark_of new.marks) l) (sym steps)
-          (pushes w start (mark_of old.marks) s ss under (above_name a) (mark_of new.marks) leads.3
-          (sym (same_marks (above_name a)) ∙ pushed.0) (from_old new pushed.3) pushed.1 pushed.2)
+          record {
+            way = subst (λ (l : List Step). IsUnderWay w start (mark_of new.marks) l) (sym steps)
+                (pushes w start (mark_of old.marks) s ss under (above_name a) (mark_of new.marks) leads.3
+                (sym (same_marks (above_name a)) ∙ pushed.0) (from_old new pushed.3) pushed.1 pushed.2);
+            done = subst (λ (l : List Above). IsDone w (mark_of new.marks) (names_met l)) (sym pushed.5)
+                (done_pushes w start (mark_of mid.marks) (mark_of new.marks) (names_met mid.done) (above_name a)
+                done_mid pushed.0 pushed.3);
+          }
 
       pub above_less : (new : Walk) → Comes w up (above_name a) mid new false → size_of new < size_of old
       above_less new (inl done) =

@@ -11,15 +11,25 @@ use Rattle.cf_class.specs.declared.class_file.ClassFile.{ClassFile}
 use Rattle.lib_rows.specs.declared.class.Builtin.{Builtin}
 use Rattle.lib_rows.specs.Classes.{class_name}
 use Rattle.lib_rows.specs.Classes as builtin
+use Rattle.hi_tree.specs.declared.known.Above.{Above}
 use Rattle.hi_tree.specs.declared.known.Up.{Up}
 use Rattle.hi_tree.specs.declared.walk.Frame.{Frame}
 use Rattle.hi_tree.specs.Classes.{builtin_of, class_in, known_class, first_known}
 use Rattle.hi_tree.proofs.KnownLemmas.{find_passes, builtin_has_name}
-use Rattle.hi_tree.specs.Calls.Walking.{step_of, steps_of}
+use Rattle.hi_tree.specs.Calls.Steps.{above_name}
+use Rattle.hi_tree.specs.Calls.Walking.{step_of, steps_of, names_met}
 
 pub steps_push : (up : Up) (frames : List Frame) (f : Frame)
     → steps_of up (frames ++ f ∷ []) ≡ step_of up f ∷ steps_of up frames
 steps_push up frames f = simp (map-append, reverse-append)
+
+pub met_more : (old new : List Above) (a : Above) → new ≡ old ++ a ∷ []
+    → names_met new ≡ above_name a ∷ names_met old
+met_more old new a e =
+    ap (λ (l : List Above). names_met l) e ∙ met_push old a
+  where
+    met_push : (old : List Above) (a : Above) → names_met (old ++ a ∷ []) ≡ above_name a ∷ names_met old
+    met_push old a = simp (map-append, reverse-append)
 
 -- the names that can be known
 unfoldable pub universe : List ClassFile → List (List ℕ)

@@ -5,7 +5,16 @@ pub mod MeasureLemmas
 pub mod IndexLemmas
 pub mod KnownLemmas
 pub mod MarkLemmas
+pub mod PackageLemmas
 pub mod FrameLemmas
 pub mod ClimbLemmas
 pub mod SubtypeLemmas
+pub mod ShadeLemmas
+pub mod ResolveLemmas
+pub mod SelectLemmas
+pub mod MethodLawLemmas
+pub mod OfferLemmas
+pub mod ChoosingState
+pub mod ChooseLemmas
+pub mod DoneLemmas
 pub mod EndLemmas

@@ -60,7 +60,7 @@ module _ (w : Climb) (start : List ℕ) where
   )
 
   module _ (marks : Marks) (s : Step) (ss : List Step) (is : IsUnderWay w start marks (s ∷ ss)) where
-    top : IsStep w start marks None s (names_of ss)
+    pub top : IsStep w start marks None s (names_of ss)
     unfolding Stand
     top = is.stand.0
 
@@ -227,7 +227,7 @@ module _ (w : Climb) (start : List ℕ) where
           let c : length s.above ≤ s.next = none_at s.above s.next e in
           omega arith
 
-      above_done : (place : ℕ) (a : List ℕ) → slice_get (w.supers s.name) place ≡ Some a → marks a ≡ Some false
+      pub above_done : (place : ℕ) (a : List ℕ) → slice_get (w.supers s.name) place ≡ Some a → marks a ≡ Some false
       above_done place a at =
           let old = at_supers place a at in
           no_upper place a (below_end place a old) old

@@ -6,6 +6,7 @@ use Rattle.std.proofs.Common.{Option, length, map}
 use Rattle.std.specs.Prelude.{slice_get}
 use Rattle.hi_tree.specs.Walks.{Climb, IsAbove, IsClean, Stop, StopsAt, Stops}
 use Rattle.hi_tree.specs.Calls.Steps.{Step, Marks}
+use Rattle.hi_tree.specs.Calls.Walking.{IsOrdered}
 
 abbrev pub names_of : List Step → List (List ℕ)
 names_of steps = map (λ s. s.name) steps
@@ -37,6 +38,12 @@ module _ (w : Climb) (start : List ℕ) where
         → marks above ≡ Some false
     pub reached : (q : List ℕ) (mark : Bool) → marks q ≡ Some mark → (q ≡ start) ⊎ IsAbove w.supers start q
     pub stand : Stand marks None steps
+
+-- the classes that are done, each once and before those above it
+pub record IsDone (w : Climb) (marks : Marks) (names : List (List ℕ)) : Type 0 where
+  pub off : (q : List ℕ) → marks q ≡ Some false → Contains names q
+  pub only : (q : List ℕ) → Contains names q → marks q ≡ Some false
+  pub ordered : IsOrdered w.supers names
 
 -- what is done stays done, and what is being climbed from stays so
 abbrev pub Keeps : Marks → Marks → List Step → Type 0

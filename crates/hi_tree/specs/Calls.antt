@@ -2,4 +2,5 @@
 pub mod Index
 pub mod Steps
 pub mod Walking
+pub mod Choosing
 pub mod Shapes

@@ -2,9 +2,15 @@ pub mod Classes
 pub mod Walks
 pub mod Supers
 pub mod Members
+pub mod Methods
 pub mod Sought
 pub mod Faults
 pub mod Fields
 pub mod Subtypes
+pub mod Superinterfaces
+pub mod Resolution
+pub mod Selection
+pub mod Worlds
+pub mod Inputs
 pub mod Laws
 pub mod Calls

@@ -1,5 +1,5 @@
 -- Which members a class declares (JVM Specification SE 8, 4.5 and 4.6).
-use Rattle.std.specs.Prelude.{ℕ, Bool, false, List, [], ◌∷◌, Option, is_some, ◌&&◌, codes}
+use Rattle.std.specs.Prelude.{ℕ, ◌/◌, ◌%◌, Bool, false, List, [], ◌∷◌, Option, is_some, ◌&&◌, codes, nat_eq}
 use Rattle.std.specs.List.{find, list_any}
 use Rattle.std.specs.Str.{bytes_eq}
 use Rattle.cf_class.specs.declared.member.Member.{Member}
@@ -21,3 +21,7 @@ is_builtin_field name desc other = false
 abbrev pub declares_field : List ℕ → List ℕ → Known → Bool
 declares_field name desc (built_in b) = is_builtin_field name desc b
 declares_field name desc (read c) = is_some (member_in name desc c.fields)
+
+-- a flag, one bit, is set
+abbrev pub has_flag : ℕ → ℕ → Bool
+has_flag flags flag = nat_eq (flags / flag % 2) 1

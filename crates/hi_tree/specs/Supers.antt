@@ -4,7 +4,8 @@ use Rattle.cf_class.specs.declared.class_file.ClassFile.{ClassFile}
 use Rattle.lib_rows.specs.declared.class.Builtin.{Builtin}
 use Rattle.lib_rows.specs.Classes.{class_name, superclass_of, superinterfaces_of}
 use Rattle.hi_tree.specs.declared.known.Up.{Up}
-use Rattle.hi_tree.specs.declared.known.Up.TheVariants.{Superclasses, Supertypes}
+use Rattle.lib_rows.specs.declared.class.Builtin.TheVariants as builtins
+use Rattle.hi_tree.specs.declared.known.Up.TheVariants.{Superclasses, Supertypes, ObjectAlone}
 use Rattle.hi_tree.specs.Classes.{Known, built_in, read, known_class}
 use Rattle.hi_tree.specs.Walks.{Climb}
 
@@ -22,9 +23,15 @@ abbrev pub superinterface_names : Known → List (List ℕ)
 superinterface_names (built_in b) = map class_name (superinterfaces_of b)
 superinterface_names (read c) = map (λ n. n.name) c.interfaces
 
--- the superclass alone, or the superinterfaces in order and then the superclass
+-- java.lang.Object is above each other class
+abbrev pub object_names : Known → List (List ℕ)
+object_names (built_in builtins.Object) = []
+object_names other = class_name builtins.Object ∷ []
+
+-- the superclass alone, or Object alone, or the superinterfaces in order and then the superclass
 abbrev pub names_above : Up → Known → List (List ℕ)
 names_above Superclasses k = superclass_names k
+names_above ObjectAlone k = object_names k
 names_above Supertypes k = superinterface_names k ++ superclass_names k
 
 abbrev pub names_above_some : Up → Option Known → List (List ℕ)

@@ -1,15 +1,18 @@
 // Classes that are known, and the classes directly above them.
 ghost use Rattle.std.specs.Prelude.{◌≡◌, ◌<◌, ◌≤◌, ◌^◌, IfSome, length, map, option_map, option_to_list, slice_get};
+ghost use Rattle.hi_tree.specs.Calls.Steps.{above_name};
+ghost use Rattle.hi_tree.specs.Resolution.{holder};
 
 use cf_class::ClassFile;
 use jv_base::Name;
 use lib_rows::Builtin;
 
-/// Which supertypes a walk climbs to: the superclasses alone, or the superinterfaces of each class and then its
-/// superclass.
+/// Which supertypes a walk climbs to: the superclasses alone, `java/lang/Object` alone, or the superinterfaces of each
+/// class and then its superclass.
 #[derive(Clone, Copy, Debug, PartialEq, Eq)]
 pub enum Up {
     Superclasses,
+    ObjectAlone,
     Supertypes,
 }
 
@@ -42,7 +45,7 @@ impl<'a> Above<'a> {
 
 impl<'a> KnownClass<'a> {
     ghost use Rattle.hi_tree.specs.Calls.Steps.{known_of, above_name};
-    ghost use Rattle.hi_tree.specs.Supers.{superclass_names, superinterface_names, names_above};
+    ghost use Rattle.hi_tree.specs.Supers.{superclass_names, superinterface_names, object_names, names_above};
 
     fn superclass(self) -> Option<Above<'a>>
         ensures { map above_name (option_to_list result) ≡ superclass_names (known_of self.entry) }
@@ -50,6 +53,15 @@ impl<'a> KnownClass<'a> {
         match self {
             KnownClass::Builtin(class) => Some(Above::Builtin(class.superclass()?)),
             KnownClass::Read(class) => Some(Above::Named(&class.super_class.name)),
+        }
+    }
+
+    fn object_above(self) -> Option<Above<'a>>
+        ensures { map above_name (option_to_list result) ≡ object_names (known_of self.entry) }
+    {
+        match self {
+            KnownClass::Builtin(Builtin::Object) => None,
+            _ => Some(Above::Builtin(Builtin::Object)),
         }
     }
 
@@ -80,15 +92,28 @@ impl<'a> KnownClass<'a> {
         ensures within { IfSome result (λ _. place ≤ 2 ^ 63) }
     {
         let before = match up {
-            Up::Superclasses => 0,
+            Up::Superclasses | Up::ObjectAlone => 0,
             Up::Supertypes => self.superinterface_count(),
         };
         if place < before {
             self.superinterface(place)
-        } else if place == before {
-            self.superclass()
-        } else {
+        } else if place > before {
             None
+        } else if up == Up::ObjectAlone {
+            self.object_above()
+        } else {
+            self.superclass()
         }
+    }
+}
+
+/// The class whose methods a class has: those of an array are the methods of `java/lang/Object` (10.7).
+pub(crate) fn holder(class: &Name) -> Above<'_>
+    ensures { above_name result ≡ holder class.now }
+{
+    if class.as_str().as_bytes().first() == Some(&b'[') {
+        Above::Builtin(Builtin::Object)
+    } else {
+        Above::Named(class)
     }
 }

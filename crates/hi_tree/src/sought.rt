@@ -1,11 +1,13 @@
 // What a walk looks for.
 ghost use Rattle.std.specs.Prelude.{◌≡◌, option_copied};
 ghost use Rattle.hi_tree.specs.Members.{member_in, declares_field, is_builtin_field};
+ghost use Rattle.hi_tree.specs.Sought.{package_of, can_override, override_sought};
 ghost use Rattle.hi_tree.specs.Calls.Steps.{known_of};
 
+use crate::declared::Access;
 use crate::known::KnownClass;
 use cf_class::Member;
-use jv_base::{FieldId, Name};
+use jv_base::{FieldId, MethodId, Name};
 use lib_rows::Builtin;
 
 #[derive(Clone, Copy, Debug)]
@@ -16,10 +18,18 @@ pub(crate) enum Sought<'a> {
     Class(&'a str),
     /// A class that declares a field of the name and the descriptor.
     Field(&'a FieldId),
+    /// A class that declares a method of the name and the descriptor.
+    Method(&'a MethodId),
+    /// The class of a method of this access, or one that declares a method which overrides it.
+    Override(&'a MethodId, Access),
 }
 
 /// The member of a name and a descriptor.
-fn member_in<'a>(mut members: &'a [Member], name: &Name, desc: &Name) -> Option<&'a Member>
+pub(crate) fn member_in<'a>(
+    mut members: &'a [Member],
+    name: &Name,
+    desc: &Name,
+) -> Option<&'a Member>
     ensures { option_copied result ≡ member_in name.now desc.now members.entry.now }
 {
     while let [member, rest @ ..] = members {
@@ -60,6 +70,45 @@ fn declares_field(class: KnownClass<'_>, field: &FieldId) -> bool
     }
 }
 
+/// The part of a class name up to the last slash.
+fn package_of(name: &str) -> &[u8]
+    ensures { result.now ≡ package_of name.now }
+{
+    let mut left = name.as_bytes();
+    while let [front @ .., last] = left {
+        if *last == b'/' {
+            return left;
+        }
+        left = front;
+    }
+    left
+}
+
+/// Whether a method of a class can be overridden in another class.
+fn can_override(access: Access, class: &str, name: &str) -> bool
+    ensures { result ≡ can_override access class.now name.now }
+{
+    match access {
+        Access::Package => package_of(name) == package_of(class),
+        Access::Private | Access::Wide => true,
+    }
+}
+
+/// Whether a class declares a method that overrides another, or is the class of that one.
+fn overrides(name: &str, class: KnownClass<'_>, method: &MethodId, access: Access) -> bool
+    ensures { result ≡ override_sought method.now access name.now (known_of class.entry) }
+{
+    if name == method.class.as_str() {
+        return true;
+    }
+    match class.declared(&method.name, &method.desc) {
+        Some(declared) => {
+            declared.is_virtual() && can_override(access, method.class.as_str(), name)
+        }
+        None => false,
+    }
+}
+
 impl Sought<'_> {
     ghost use Rattle.hi_tree.specs.Calls.Steps.{known_of, sought_of};
 
@@ -71,6 +120,8 @@ impl Sought<'_> {
             Sought::Nothing => false,
             Sought::Class(sought) => name == sought,
             Sought::Field(field) => declares_field(class, field),
+            Sought::Method(method) => class.declared(&method.name, &method.desc).is_some(),
+            Sought::Override(method, access) => overrides(name, class, method, access),
         }
     }
 }

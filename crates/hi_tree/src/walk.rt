@@ -17,7 +17,7 @@ use std::alloc::Global;
 /// A class that is being climbed from: how many of those above it were climbed to.
 #[derive(Clone, Copy, Debug)]
 pub(crate) struct Frame<'a> {
-    pub name: &'a str,
+    pub name: Above<'a>,
     pub class: KnownClass<'a>,
     pub next: usize,
 }
@@ -28,6 +28,8 @@ pub(crate) struct Walk<'a> {
     /// The classes that were met: true for those that are being climbed from.
     pub marks: IndexMap<&'a str, bool>,
     pub frames: List<Frame<'a>>,
+    /// The classes that are done, each behind those above it.
+    pub done: List<Above<'a>>,
 }
 
 /// What comes next: a class above, the end of what is above a class, or the end of the walk.
@@ -38,14 +40,19 @@ pub(crate) enum Next<'a> {
     Over,
 }
 
-/// Where a walk ends: at the first class that is sought, or nowhere, with the names that it met.
+/// Where a walk ends: at the first class that is sought, or nowhere, with the classes that it met, each behind those
+/// above it.
 #[derive(Drop)]
 pub(crate) enum Walked<'a> {
     Found(Above<'a>),
-    Clean(IndexMap<&'a str, bool>),
+    Clean(List<Above<'a>>),
 }
 
-fn set_mark<'a>(marks: &mut IndexMap<&'a str, bool>, name: &'a str, mark: bool) -> Mem<()>
+pub(crate) fn set_mark<'a>(
+    marks: &mut IndexMap<&'a str, bool>,
+    name: &'a str,
+    mark: bool,
+) -> Mem<()>
     ensures { OnOk result (IsMarked (mark_of marks.old) name.now mark (mark_of marks.new)) }
 {
     marks.insert(name, mark)?;
@@ -81,7 +88,7 @@ fn come<'a>(
     }
     set_mark(&mut walk.marks, name, true)?;
     walk.frames.add(Frame {
-        name,
+        name: class,
         class: known,
         next: 0,
     })?;
@@ -96,7 +103,8 @@ fn lead<'a>(walk: &mut Walk<'a>, up: Up) -> Mem<Next<'a>>
         return Ok(Next::Over);
     };
     let Some(above) = frame.class.above(up, frame.next) else {
-        set_mark(&mut walk.marks, frame.name, false)?;
+        set_mark(&mut walk.marks, frame.name.text(), false)?;
+        walk.done.add(frame.name)?;
         return Ok(Next::Left);
     };
     walk.frames.add(Frame {
@@ -122,13 +130,14 @@ pub(crate) fn climb_from<'a>(
     let mut walk = Walk {
         marks: IndexMap::new(alloc),
         frames: List::new(alloc),
+        done: List::new(alloc),
     };
     if come(alloc, classes, &mut walk, class, sought)? {
         return Ok(Walked::Found(class));
     }
     loop {
         match lead(&mut walk, up)? {
-            Next::Over => return Ok(Walked::Clean(walk.marks)),
+            Next::Over => return Ok(Walked::Clean(walk.done)),
             Next::Left => {}
             Next::Above(above) => {
                 if come(alloc, classes, &mut walk, above, sought)? {

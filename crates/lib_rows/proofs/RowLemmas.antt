@@ -11,8 +11,8 @@ use Rattle.jv_list.proofs.MemberLemmas.{first_member, later_member}
 use Rattle.lib_rows.specs.declared.class.Builtin.{Builtin}
 use Rattle.lib_rows.specs.declared.method.LibMethod.{LibMethod}
 use Rattle.lib_rows.specs.Classes.{class_name}
-use Rattle.lib_rows.specs.Rows.{Row, row}
-use Rattle.lib_rows.specs.Calls.{class_in, named}
+use Rattle.lib_rows.specs.Rows.{Row, row, named}
+use Rattle.lib_rows.specs.Calls.{class_in}
 
 -- what holds of the one that a test chooses, and of what is found without it
 chosen : {X : Type 0} (P : X → Type 0) (x : X) (o : Option X) (t : Bool) → (t ≡ true → P x) → IfSome o P

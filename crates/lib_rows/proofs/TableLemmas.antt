@@ -10,8 +10,7 @@ use Rattle.lib_rows.specs.declared.class.Builtin.TheVariants.{Comparable, CharSe
 use Rattle.lib_rows.specs.declared.method.LibMethod.{LibMethod}
 use Rattle.jv_base.specs.declared.method.MethodId.{MethodId}
 use Rattle.lib_rows.specs.Classes.{class_name}
-use Rattle.lib_rows.specs.Rows.{Row, row, rows_of, IsRow}
-use Rattle.lib_rows.specs.Calls.{named}
+use Rattle.lib_rows.specs.Rows.{Row, row, rows_of, IsRow, named}
 use Rattle.lib_rows.proofs.ClassLemmas.{one_class}
 use Rattle.lib_rows.proofs.RowLemmas.{weaker, row_found}
 

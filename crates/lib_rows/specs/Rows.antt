@@ -1,5 +1,6 @@
 -- The methods of the JDK that are known without a class file: the rows of each class.
-use Rattle.std.specs.Prelude.{◌≡◌, ℕ, List, [], ◌∷◌, Contains, codes}
+use Rattle.std.specs.Prelude.{◌≡◌, ℕ, List, [], ◌∷◌, Option, Some, None, Contains, codes, ◌&&◌, if◌then◌else◌}
+use Rattle.std.specs.Str.{bytes_eq}
 use Rattle.jv_base.specs.declared.method.MethodId.{MethodId}
 use Rattle.lib_rows.specs.declared.class.Builtin.{Builtin}
 use Rattle.lib_rows.specs.declared.class.Builtin.TheVariants.{Object, String, StringBuilder, Class, System, PrintStream, Throwable, Exception, Error, RuntimeException, AssertionError, ArithmeticException, ArrayStoreException, ClassCastException, IllegalArgumentException, IllegalStateException, IndexOutOfBoundsException, NegativeArraySizeException, NullPointerException, UnsupportedOperationException, ArrayIndexOutOfBoundsException, StringIndexOutOfBoundsException, NumberFormatException, Comparable, CharSequence, Cloneable, Serializable}
@@ -131,3 +132,9 @@ pub record IsRow (method : MethodId) (found : LibMethod) : Type 0 where
   pub class : Builtin
   pub named : method.class ≡ class_name class
   pub listed : Contains (rows_of class) (row method.name method.desc found)
+
+-- the method of the first row with the name and the descriptor
+abbrev pub named : List Row → List ℕ → List ℕ → Option LibMethod
+named [] name desc = None
+named (row ∷ rows) name desc =
+    if bytes_eq row.name name && bytes_eq row.desc desc then Some row.method else named rows name desc

@@ -2,12 +2,11 @@
 ghost use Rattle.std.specs.Prelude.{◌≡◌, IfSome, Some, map};
 ghost use Rattle.lib_rows.specs.declared.method.LibMethod.{LibMethod};
 ghost use Rattle.lib_rows.specs.Rows.{IsRow, rows_of};
-ghost use Rattle.lib_rows.specs.Rows.{row};
-ghost use Rattle.lib_rows.specs.Calls.{named};
+ghost use Rattle.lib_rows.specs.Rows.{row, named};
 
 use crate::class::{Builtin, find_class};
 use crate::method::LibMethod;
-use jv_base::MethodId;
+use jv_base::{MethodId, Name};
 
 const OBJECT: [(&str, &str, LibMethod); 2] = [
     ("<init>", "()V", LibMethod::ObjectInit),
@@ -173,5 +172,14 @@ pub fn find_row(method: &MethodId) -> Option<LibMethod>
     match find_class(&method.class) {
         Some(class) => named(rows_of(class), method.name.as_str(), method.desc.as_str()),
         None => None,
+    }
+}
+
+impl Builtin {
+    /// The row of the class itself with a name and a descriptor.
+    pub fn row(self, name: &Name, desc: &Name) -> Option<LibMethod>
+        ensures { result ≡ named (rows_of self) name.now desc.now }
+    {
+        named(rows_of(self), name.as_str(), desc.as_str())
     }
 }

@@ -223,6 +223,10 @@ fn the_rows_are_those_of_the_table(rt: HostRuntime) {
             None => printed.push_str("none").expect(&rt, "memory"),
         }
         assert!(rt; printed.as_str() == wanted, "{line}");
+        if let Some(found) = find_class(&name(&rt, class)) {
+            let row = found.row(&name(&rt, method), &name(&rt, desc));
+            assert!(rt; row == row_of(&rt, class, method, desc), "{line}");
+        }
     }
     one_row();
 }

@@ -8,7 +8,7 @@ use Rattle.hi_tree.specs.declared.known.KnownClass.TheVariants as classes
 use Rattle.hi_tree.specs.declared.sought.Sought.{Sought}
 use Rattle.hi_tree.specs.declared.sought.Sought.TheVariants as seek
 use Rattle.hi_tree.specs.Classes.{Known, built_in, read}
-use Rattle.hi_tree.specs.Sought.{class_sought, field_sought, nothing_sought}
+use Rattle.hi_tree.specs.Sought.{class_sought, field_sought, method_sought, override_sought, nothing_sought}
 
 abbrev pub above_name : Above → List ℕ
 above_name (above.Builtin b) = class_name b
@@ -22,6 +22,8 @@ abbrev pub sought_of : Sought → List ℕ → Known → Bool
 sought_of seek.Nothing = nothing_sought
 sought_of (seek.Class class) = class_sought class.now
 sought_of (seek.Field field) = field_sought field.now.name field.now.desc
+sought_of (seek.Method method) = method_sought method.now.name method.now.desc
+sought_of (seek.Override method access) = override_sought method.now access
 
 -- a class that is being climbed from: the names above it, and how many of them were climbed to
 pub record Step : Type 0 where

@@ -23,12 +23,8 @@ returns-clause-comes c = λ up.
     let free : s c.text-name.result.now k ≡ false = sym c.is_at.ensures ∙ c.if-is_at.false in
     let free_there : s name k ≡ false = subst (λ (n : List ℕ). s n k ≡ false) c.text-name.ensures free in
     let set = c.in_ok-set_mark.ensures in
-    let steps : steps_of up c.add.new.self ≡ record {
-      name = c.text-name.result.now;
-      above = names_above up k;
-      next
-          = 0;
-    } ∷ steps_of up c.args.walk.now.frames =
+    let steps : steps_of up c.add.new.self ≡ record { name = name; above = names_above up k; next = 0 } ∷ steps_of up
+    c.args.walk.now.frames =
     ap (λ fs. steps_of up fs) c.in_ok-add.ensures.ok ∙ steps_push up c.args.walk.now.frames _ in
     inr (
       subst (λ (n : List ℕ). mark_of c.args.walk.now.marks n ≡ None) c.text-name.ensures none,
@@ -36,8 +32,7 @@ returns-clause-comes c = λ up.
       ap (λ (o : Option Known). sought_some (s name) o) kn ∙ free_there,
       subst (λ (n : List ℕ). IsMarked (mark_of c.args.walk.now.marks) n true
           (mark_of c.set_mark.new.marks)) c.text-name.ensures set,
-      steps ∙ ap (λ (n : List ℕ). record { name = n; above = names_above up k; next = 0 } ∷ steps_of up
-          c.args.walk.now.frames) c.text-name.ensures
-          ∙ ap (λ (o : Option Known). record { name = name; above = names_above_some up o; next = 0 } ∷ steps_of up
+      steps ∙ ap (λ (o : Option Known). record { name = name; above = names_above_some up o; next = 0 } ∷ steps_of up
           c.args.walk.now.frames) (sym kn),
+      refl,
     )

@@ -1,7 +1,6 @@
 -- What is still to be searched answers what the whole list does.
 use Rattle.std.proofs.Common.{◌≡◌, length, map}
-use Rattle.lib_rows.specs.Rows.{row}
-use Rattle.lib_rows.specs.Calls.{named}
+use Rattle.lib_rows.specs.Rows.{row, named}
 use Rattle.lib_rows.proofs.row.named.Given as goal
 
 abbrev pub invariant-loop-rows : goal.invariant-loop-rows

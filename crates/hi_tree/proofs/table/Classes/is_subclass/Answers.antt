@@ -24,6 +24,6 @@ returns-clause-decides c =
           rw w.result-is (
             (λ yes. absurd (true≢false (sym yes))),
             (λ sub. absurd (clean_sub classes class top (subst (λ (x : Walked). IsWalked
-                (class_climb classes top) class x) w.in-Clean.is h).0 sub)),
+                (class_climb classes top) class x) w.in-Clean.is h).clean sub)),
           )
     ]

@@ -1,0 +1,11 @@
+//! Tests of the public calls of the hierarchy. What they expect is what a Java virtual machine answers.
+#![tactic(auto)]
+
+#[cfg(test)]
+mod cases;
+#[cfg(test)]
+mod hierarchies;
+#[cfg(test)]
+mod sizes;
+#[cfg(test)]
+mod worlds;
