@@ -59,6 +59,7 @@ impl Search {
         self.watchers.pairs.add(Pair {
             first,
             second: first,
+            hint: 0,
         })?;
         self.store.push(lits)
     }
