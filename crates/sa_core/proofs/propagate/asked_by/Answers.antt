@@ -20,7 +20,8 @@ returns-in-None-spare_from c lits e =
     elim c.match-value.branch [
       | in-Some-false w ↦
           subst (λ (asks : Asks). IsAskedOf trail lits c.args.pair c.args.lit asks) (sym w.last-is)
-          (all_false c.args.store.now trail c.args.place mine c.in-Some.other c.at-lits.ensures c.in-None-spare_from.ensures
+          (all_false c.args.store.now trail c.args.place mine c.in-Some.other c.at-lits.ensures
+          c.in-None-spare_from.ensures
           (subst (λ (b : Bool). HasValue trail c.in-Some.other (Some b)) w.in-Some-false.field-0-test
           w.in-Some-false.ensures)
           lits e)
