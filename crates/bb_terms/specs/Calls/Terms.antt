@@ -1,5 +1,5 @@
 -- What the private functions on terms ensure.
-use Rattle.std.specs.Prelude.{◌≡◌, ◌≤◌, ◌⊎◌, ℕ, Bool, true, false, List, length, slice_get, Option, Some}
+use Rattle.std.specs.Prelude.{◌≡◌, ◌≤◌, ◌⊎◌, ℕ, Bool, List, length, slice_get, Option, Some}
 use Rattle.cn_clauses.specs.declared.lit.Lit.{Lit}
 use Rattle.cn_clauses.specs.declared.formula.Formula.{Formula}
 use Rattle.cn_clauses.specs.Satisfaction.{Satisfies}
