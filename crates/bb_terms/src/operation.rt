@@ -10,7 +10,7 @@ ghost use Rattle.tm_terms.specs.Terms.{term_sort, term_value, op_sort, op_value,
 ghost use Rattle.tm_terms.specs.declared.sort.Sort.TheVariants.{Bool as Truth};
 ghost use Rattle.bb_terms.specs.Tables.{HasWord, HasSome, IsTable};
 ghost use Rattle.bb_terms.specs.Calls.Words.{arithmetic_number, bits_number, is_in_order};
-ghost use Rattle.bb_terms.specs.Calls.Terms.{IsTermWord, AreReady, is_arithmetic};
+ghost use Rattle.bb_terms.specs.Calls.Terms.{IsTermWord, AreReady};
 
 use crate::arithmetic::{WordOp, arithmetic};
 use crate::bits::{BitOp, bitwise, equal};
@@ -237,37 +237,6 @@ fn cut_term(
     Ok(lits)
 }
 
-// Those of an operation of arithmetic.
-fn arithmetic_operation(
-    alloc: Global,
-    formula: &mut Formula,
-    bank: &Bank,
-    words: &[Option<List<Lit>>],
-    op: Op,
-) -> Mem<List<Lit>>
-    requires table { IsTable formula.old bank.now words.now }
-    requires fits { Fits bank.now op }
-    requires ready { AreReady words.now (operands_of op) }
-    requires kind { is_arithmetic op ≡ true }
-    ensures word { IfOk result (λ lits. IsTermWord bank.now words.now (width_of (op_sort bank.now op)) formula.old formula.new lits (λ v. op_value bank.now v op)) }
-    ensures keeps { IsConservative formula.old formula.new }
-{
-    growth_laws();
-    extension_laws();
-    term_laws();
-    match op {
-        Op::Add(a, b) => arithmetic_term(alloc, formula, bank, words, WordOp::Add, (a, b)),
-        Op::Sub(a, b) => arithmetic_term(alloc, formula, bank, words, WordOp::Sub, (a, b)),
-        Op::Mul(a, b) => arithmetic_term(alloc, formula, bank, words, WordOp::Mul, (a, b)),
-        Op::Div(a, b) => arithmetic_term(alloc, formula, bank, words, WordOp::Div, (a, b)),
-        Op::Rem(a, b) => arithmetic_term(alloc, formula, bank, words, WordOp::Rem, (a, b)),
-        Op::Shl(a, b) => arithmetic_term(alloc, formula, bank, words, WordOp::Shl, (a, b)),
-        Op::Shr(a, b) => arithmetic_term(alloc, formula, bank, words, WordOp::Shr, (a, b)),
-        Op::Ushr(a, b) => arithmetic_term(alloc, formula, bank, words, WordOp::Ushr, (a, b)),
-        _ => Ok(List::new(alloc)),
-    }
-}
-
 // The literals of a term that is not free, from those of its operands.
 pub(crate) fn operation(
     alloc: Global,
@@ -296,12 +265,19 @@ pub(crate) fn operation(
         Op::Equal(a, b) => equal_term(alloc, formula, bank, words, (a, b)),
         Op::Below(a, b) => order_term(alloc, formula, bank, words, false, (a, b)),
         Op::Less(a, b) => order_term(alloc, formula, bank, words, true, (a, b)),
+        Op::Add(a, b) => arithmetic_term(alloc, formula, bank, words, WordOp::Add, (a, b)),
+        Op::Sub(a, b) => arithmetic_term(alloc, formula, bank, words, WordOp::Sub, (a, b)),
+        Op::Mul(a, b) => arithmetic_term(alloc, formula, bank, words, WordOp::Mul, (a, b)),
+        Op::Div(a, b) => arithmetic_term(alloc, formula, bank, words, WordOp::Div, (a, b)),
+        Op::Rem(a, b) => arithmetic_term(alloc, formula, bank, words, WordOp::Rem, (a, b)),
+        Op::Shl(a, b) => arithmetic_term(alloc, formula, bank, words, WordOp::Shl, (a, b)),
+        Op::Shr(a, b) => arithmetic_term(alloc, formula, bank, words, WordOp::Shr, (a, b)),
+        Op::Ushr(a, b) => arithmetic_term(alloc, formula, bank, words, WordOp::Ushr, (a, b)),
         Op::BitAnd(a, b) => bits_term(alloc, formula, bank, words, BitOp::And, (a, b)),
         Op::BitOr(a, b) => bits_term(alloc, formula, bank, words, BitOp::Or, (a, b)),
         Op::BitXor(a, b) => bits_term(alloc, formula, bank, words, BitOp::Xor, (a, b)),
         Op::Widen(sort, a) => widened_term(alloc, formula, bank, words, sort, a),
         Op::WidenZero(sort, a) => widened_zero_term(alloc, formula, bank, words, sort, a),
         Op::Cut(sort, a) => cut_term(alloc, formula, bank, words, sort, a),
-        _ => arithmetic_operation(alloc, formula, bank, words, op),
     }
 }

@@ -1,9 +1,12 @@
 -- What a clause asks: its literals, one after another.
-use Rattle.std.proofs.Common.{◌≡◌, ℕ, ◌<◌, ◌*◌, Bool, false, not, List, [], ◌∷◌, ◌++◌, length, is_some, Option, Some}
-use Rattle.std.proofs.Common.{Contains, slice_get, sym, ap, ◌∙◌, subst, inl, inr}
-use Rattle.std.proofs.lemmas.Option.{slice_get_within}
-use Rattle.std.proofs.lemmas.List.Elements.{Contains-push_cases}
-use Rattle.jv_list.proofs.ElementLemmas.{one_at, at_contains}
+use Rattle.std.proofs.Common.{◌≡◌, ℕ, ◌<◌, ◌+◌, ◌-◌, ◌*◌, Bool, false, not, List, [], ◌∷◌, ◌++◌, length, is_some}
+use Rattle.std.proofs.Common.{Option, Some, None, Contains, slice_get, take, drop, take_all, length-drop}
+use Rattle.std.proofs.Common.{sym, ap, ◌∙◌, subst, inl, inr, arith}
+use Rattle.std.specs.Option.{MatchOption}
+use Rattle.std.proofs.lemmas.Option.{slice_get_within, slice_get-get_or, get_or_from_slice_get}
+use Rattle.std.proofs.lemmas.List.{get_or-drop, take-append-drop}
+use Rattle.std.proofs.lemmas.List.Elements.{Contains-push_cases, Contains-append_cases}
+use Rattle.jv_list.proofs.ElementLemmas.{one_at, at_contains, from_take}
 use Rattle.cn_clauses.specs.declared.lit.Lit.{Lit}
 use Rattle.cn_clauses.specs.Literals.{opposite_of, variable_of}
 use Rattle.sa_core.specs.declared.step.Step.{Step}
@@ -11,7 +14,7 @@ use Rattle.sa_core.specs.declared.pair.Pair.{Pair}
 use Rattle.sa_core.specs.TrailView.{lits_of, Stands, IsPlaced}
 use Rattle.sa_core.specs.SolverView.{IsFalse, AreWithin}
 use Rattle.sa_core.specs.Watching.{AreListed, IsPairWithin}
-use Rattle.sa_core.specs.Calls.Propagate.{AreFalseBut}
+use Rattle.sa_core.specs.Calls.Propagate.{AreFalseBut, IsSpareAt}
 use Rattle.sa_core.proofs.LitLemmas.{cases_lit, within_size}
 use Rattle.sa_core.proofs.TrailLemmas.{placed_stands}
 
@@ -28,6 +31,44 @@ module _ (trail lits : List Lit) (other lit : Lit) (was : AreFalseBut trail lits
       elim (Contains-push_cases lits lit one has) [
         | inl before ↦ was one before ne
         | inr same ↦ absurd (ne (sym same ∙ is))
+      ]
+
+module _ (trail lits : List Lit) (other : Lit) (n : ℕ) where
+  -- what the slices from an index on and before it have is what the list has
+  rest_is : take (length lits - n) (drop n lits) ≡ drop n lits
+  rest_is = let rest = length-drop n lits in take_all (length lits - n) (drop n lits) (omega (arith, rest))
+
+  spare_within : (part : List Lit) (i j : ℕ) (at : IsSpareAt trail part other i) → slice_get lits j ≡ Some at.lit
+      → IsSpareAt trail lits other j
+  spare_within part i j at is = record {
+    lit = at.lit;
+    is = is;
+    spare = record { within = at_contains lits j at.lit is; apart = at.spare.apart; left = at.spare.left };
+  }
+
+  spare_in_rest : (i : ℕ) → IsSpareAt trail (drop n lits) other i → IsSpareAt trail lits other (n + i)
+  spare_in_rest i at =
+      let lt = slice_get_within (drop n lits) i at.lit at.is in
+      let rest = length-drop n lits in
+      spare_within (drop n lits) i (n + i) at
+      (slice_get-get_or lits (n + i) at.lit (omega (arith, lt, rest))
+      ∙ ap (λ (l : Lit). Some l)
+      (sym (get_or-drop n lits i at.lit) ∙ get_or_from_slice_get (drop n lits) i at.lit at.lit at.is))
+
+  pub spare_behind : (i : ℕ) → IsSpareAt trail (take (length lits - n) (drop n lits)) other i
+      → IsSpareAt trail lits other (n + i)
+  spare_behind i at = spare_in_rest i (subst (λ (l : List Lit). IsSpareAt trail l other i) rest_is at)
+
+  -- a literal before the index, or all are false
+  pub spare_before : (o : Option ℕ) → AreFalseBut trail (take (length lits - n) (drop n lits)) other
+      → MatchOption o (AreFalseBut trail (take n lits) other) (λ i. IsSpareAt trail (take n lits) other i)
+      → MatchOption o (AreFalseBut trail lits other) (λ i. IsSpareAt trail lits other i)
+  spare_before (Some i) behind at = spare_within (take n lits) i i at (from_take n lits i at.lit at.is).1
+  spare_before None behind front = λ lit has ne.
+      elim (Contains-append_cases (take n lits) (drop n lits) lit
+      (subst (λ (l : List Lit). Contains l lit) (sym (take-append-drop n lits)) has)) [
+        | inl before ↦ front lit before ne
+        | inr after ↦ behind lit (subst (λ (l : List Lit). Contains l lit) (sym rest_is) after) ne
       ]
 
 -- a literal whose opposite has a place is false

@@ -149,10 +149,10 @@ module _ (twice : OppositeTwice) (same : OppositeVariable) (clauses : List (List
                     (subst (λ (l : List Lit). Guards (lits_of cut) n l pair) (sym learned.is ∙ ends.1)
                     (subst
                     (λ (l : Lit). Guards (lits_of cut) n (learned.lit ∷ learned.lower)
-                    (record { first = l; second = pair.second }))
+                    (record { first = l; second = pair.second; hint = pair.hint }))
                     (sym (chosen.first ∙ first_is))
                     (learned_guards twice clauses steps places mark limit from learned.lit learned.lower was justified
-                    last learned.learned lower_high first cut is_cut pair.second
+                    last learned.learned lower_high first cut is_cut pair.second pair.hint
                     (elim chosen.highest [
                       | inl none_high ↦
                           inl

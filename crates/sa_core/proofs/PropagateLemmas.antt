@@ -1,21 +1,21 @@
 -- Propagation: a look at a clause that a literal watches, which is false.
-use Rattle.std.proofs.Common.{◌≡◌, ◌⊎◌, ℕ, ◌+◌, ◌<◌, ◌≤◌, List, [], ◌∷◌, ◌++◌, length, Some, None, Contains, slice_get}
+use Rattle.std.proofs.Common.{◌≡◌, ◌⊎◌, ℕ, ◌+◌, ◌<◌, ◌≤◌, List, [], ◌∷◌, ◌++◌, length, Some, Contains, slice_get}
 use Rattle.std.proofs.Common.{sym, ap, ◌∙◌, subst, inl, inr, arith}
 use Rattle.std.proofs.lemmas.Option.{slice_get_within}
 use Rattle.std.proofs.lemmas.Bool.{cases_lt, cases_eq}
-use Rattle.jv_list.proofs.ElementLemmas.{place_of, one_at}
+use Rattle.jv_list.proofs.ElementLemmas.{one_at}
 use Rattle.cn_clauses.specs.declared.lit.Lit.{Lit}
 use Rattle.cn_clauses.specs.Literals.{opposite_of}
 use Rattle.cn_clauses.specs.Laws.{OppositeTwice}
 use Rattle.sa_core.specs.declared.step.Step.{Step}
 use Rattle.sa_core.specs.declared.watches.Watchers.{Watchers}
 use Rattle.sa_core.specs.declared.pair.Pair.{Pair}
-use Rattle.sa_core.specs.TrailView.{lits_of, Stands, Grows}
+use Rattle.sa_core.specs.TrailView.{lits_of, Stands}
 use Rattle.sa_core.specs.SolverView.{IsUnit}
-use Rattle.sa_core.specs.Watching.{IsListed, AreListed, IsTrueBefore, Guards, IsGuarded, AreGuarded}
-use Rattle.sa_core.specs.Watching.{IsPlaceAt, IsCount, IsKept}
+use Rattle.sa_core.specs.Watching.{IsListed, AreListed, IsTrueBefore, Guards, IsGuarded}
+use Rattle.sa_core.specs.Watching.{IsPlaceAt}
 use Rattle.sa_core.specs.Calls.Propagate.{IsStale, IsOther, HasTrueOther, AsksForOther, IsAwaited}
-use Rattle.sa_core.specs.Calls.Propagate.{IsTurning, Visits}
+use Rattle.sa_core.specs.Calls.Propagate.{IsTurning}
 use Rattle.sa_core.proofs.LitLemmas.{cases_lit}
 use Rattle.sa_core.proofs.TrailLemmas.{lits_length}
 use Rattle.sa_core.proofs.GrowLemmas.{grows_push, kept_lit}

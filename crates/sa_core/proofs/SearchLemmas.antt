@@ -163,11 +163,11 @@ module _ (twice : OppositeTwice) (clauses : List (List Lit)) (steps : List Step)
         ]
 
     -- and its first literal and the one that became false last guard it
-    pub learned_guards : (second : Lit)
+    pub learned_guards : (second : Lit) (hint : ℕ)
         → NoHighest (lits_of steps) lower limit ⊎ IsHighest (lits_of steps) lower limit second → (place : ℕ)
         → (step : Step) → slice_get cut place ≡ Some step → step.reason ≡ None
-        → Guards (lits_of cut) place (lit ∷ lower) (record { first = lit; second = second })
-    learned_guards second chosen place step e none =
+        → Guards (lits_of cut) place (lit ∷ lower) (record { first = lit; second = second; hint = hint })
+    learned_guards second hint chosen place step e none =
         let lt : place < length cut = slice_get_within cut place step e in
         let at : slice_get steps place ≡ Some step = cut_grows.kept place step e in
         elim (cases_lt place limit) [

@@ -53,10 +53,15 @@ pub fn pair_of(trail: &Trail, lits: &[Lit], limit: usize) -> Pair
 {
     let first = lits[0];
     match highest(trail, &lits[1..], limit) {
-        Some(second) => Pair { first, second },
+        Some(second) => Pair {
+            first,
+            second,
+            hint: 0,
+        },
         None => Pair {
             first,
             second: first,
+            hint: 0,
         },
     }
 }

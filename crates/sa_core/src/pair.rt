@@ -6,4 +6,6 @@ use cn_clauses::Lit;
 pub struct Pair {
     pub first: Lit,
     pub second: Lit,
+    /// Where in the clause a literal that is not false is looked for first. It is a hint, of which no clause speaks.
+    pub hint: usize,
 }

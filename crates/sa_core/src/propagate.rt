@@ -5,7 +5,7 @@ ghost use Rattle.cn_clauses.specs.Literals.{opposite_of};
 ghost use Rattle.sa_core.specs.TrailView.{lits_of};
 ghost use Rattle.sa_core.specs.SolverView.{AreWithin, IsWithin};
 ghost use Rattle.sa_core.specs.Watching.{AreGuarded, IsPairWithin, IsKept};
-ghost use Rattle.sa_core.specs.Calls.Propagate.{IsStale, IsOther, IsSpareFor, AreFalseBut, IsAsked, IsTurning, Visits, VisitsAll, Propagates};
+ghost use Rattle.sa_core.specs.Calls.Propagate.{IsStale, IsOther, IsSpareAt, AreFalseBut, IsAsked, IsTurning, Visits, VisitsAll, Propagates};
 
 use crate::pair::Pair;
 use crate::step::Step;
@@ -43,18 +43,30 @@ fn other_of(pair: Pair, lit: Lit) -> Option<Lit>
     }
 }
 
-// A literal of a clause that is not false and not the other one.
-fn spare_of(trail: &Trail, lits: &[Lit], other: Lit) -> Option<Lit>
+// The index of a literal that is not false and not the other one.
+fn spare_of(trail: &Trail, lits: &[Lit], other: Lit) -> Option<usize>
     requires { IsWithin trail.now.variables lits.now }
-    ensures { MatchOption result (AreFalseBut (lits_of trail.now.steps) lits.now other) (λ lit. IsSpareFor (lits_of trail.now.steps) lits.now other lit) }
+    ensures { MatchOption result (AreFalseBut (lits_of trail.now.steps) lits.now other) (λ index. IsSpareAt (lits_of trail.now.steps) lits.now other index) }
 {
     literal_laws();
-    for lit in lits {
+    for (index, lit) in lits.iter().enumerate() {
         if *lit != other && trail.place_of(lit.opposite()).is_none() {
-            return Some(*lit);
+            return Some(index);
         }
     }
     None
+}
+
+// The same, looked for from an index on first. After Gent and CaDiCaL: where the last search ended, the next one goes on.
+fn spare_from(trail: &Trail, lits: &[Lit], other: Lit, hint: usize) -> Option<usize>
+    requires { IsWithin trail.now.variables lits.now }
+    ensures { MatchOption result (AreFalseBut (lits_of trail.now.steps) lits.now other) (λ index. IsSpareAt (lits_of trail.now.steps) lits.now other index) }
+{
+    let middle = hint.min(lits.len());
+    match spare_of(trail, &lits[middle..], other) {
+        Some(index) => Some(middle + index),
+        None => spare_of(trail, &lits[..middle], other),
+    }
 }
 
 // What the clause at a place asks, with a pair of literals of which one is false.
@@ -73,10 +85,12 @@ fn asked_by(store: &Store, trail: &Trail, place: usize, pair: Pair, lit: Lit) ->
         Some(false) => Asks::Conflict,
         None => Asks::Literal(other),
     };
-    match spare_of(trail, store.at(place), other) {
-        Some(spare) => Asks::Turn(Pair {
-            first: spare,
+    let lits = store.at(place);
+    match spare_from(trail, lits, other, pair.hint) {
+        Some(index) => Asks::Turn(Pair {
+            first: lits[index],
             second: other,
+            hint: index,
         }),
         None => last,
     }

@@ -5,7 +5,7 @@ ghost use Rattle.cn_clauses.specs.Formulas.{value_at};
 ghost use Rattle.cn_clauses.specs.Satisfaction.{Satisfies};
 ghost use Rattle.sa_core.specs.SpentLog.{all_clauses};
 ghost use Rattle.sa_core.specs.TrailView.{lits_of, IsOpen, AllGiven};
-ghost use Rattle.sa_core.specs.SolverView.{IsWithin, AreWithin, AreSettled, IsFound, IsLastDecision};
+ghost use Rattle.sa_core.specs.SolverView.{IsWithin, AreWithin, AreSettled, IsFound, IsLastDecision, NoDecision};
 ghost use Rattle.sa_core.specs.Analysis.{IsLearnedClause};
 ghost use Rattle.sa_core.specs.Watching.{IsEnded};
 ghost use Rattle.sa_core.specs.SearchView.{clauses_of, trail_of, IsReady, Stores, IsLoaded, GoesOn};
@@ -59,6 +59,7 @@ impl Search {
         self.watchers.pairs.add(Pair {
             first,
             second: first,
+            hint: 0,
         })?;
         self.store.push(lits)
     }
@@ -126,6 +127,7 @@ impl Search {
         ensures settled { IsFound (clauses_of self.new) (trail_of self.new) None }
         ensures ended { IsEnded (clauses_of self.new) self.new.watchers.pairs (trail_of self.new) None }
         ensures keeps { (self.new.store ≡ self.old.store) × (self.new.trail.variables ≡ self.old.trail.variables) }
+        ensures none { OnOk result (NoDecision self.new.trail.steps) }
     {
         let Some(mark) = last_decision(&self.trail) else {
             return Ok(());

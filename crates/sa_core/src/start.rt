@@ -41,6 +41,7 @@ fn shown_by(trail: &Trail, lits: &[Lit]) -> Shows
                         return Shows::Open(Pair {
                             first: other,
                             second: *lit,
+                            hint: 0,
                         });
                     }
                 }

@@ -1,5 +1,5 @@
 -- What the private functions on terms ensure.
-use Rattle.std.specs.Prelude.{◌≡◌, ◌≤◌, ◌⊎◌, ℕ, Bool, true, false, List, length, slice_get, Option, Some}
+use Rattle.std.specs.Prelude.{◌≡◌, ◌≤◌, ◌⊎◌, ℕ, Bool, List, length, slice_get, Option, Some}
 use Rattle.cn_clauses.specs.declared.lit.Lit.{Lit}
 use Rattle.cn_clauses.specs.declared.formula.Formula.{Formula}
 use Rattle.cn_clauses.specs.Satisfaction.{Satisfies}
@@ -8,7 +8,6 @@ use Rattle.cn_clauses.specs.Extension.{Extends}
 use Rattle.bb_gates.specs.Growth.{AreOf}
 use Rattle.bb_arith.specs.Words.{number_of}
 use Rattle.tm_terms.specs.declared.op.Op.{Op}
-use Rattle.tm_terms.specs.declared.op.Op.TheVariants.{Add, Sub, Mul, Div, Rem, Shl, Shr, Ushr}
 use Rattle.tm_terms.specs.declared.op.Operands.{Operands}
 use Rattle.tm_terms.specs.declared.op.Operands.TheVariants.{Nothing, One, Two, Three}
 use Rattle.tm_terms.specs.Operations.{operands_of}
@@ -23,18 +22,6 @@ pub record IsTermWord (ops : List Op) (words : List (Option (List Lit))) (n : �
     pub wide : length lits ≡ n
     pub is : (w : ℕ → Bool) (v : List ℕ) → Satisfies w (clauses_of new) → ShowsValuation ops words w v
         → number_of w lits ≡ number v
-
--- the operation is one of arithmetic on two words
-abbrev pub is_arithmetic : Op → Bool
-is_arithmetic (Add a b) = true
-is_arithmetic (Sub a b) = true
-is_arithmetic (Mul a b) = true
-is_arithmetic (Div a b) = true
-is_arithmetic (Rem a b) = true
-is_arithmetic (Shl a b) = true
-is_arithmetic (Shr a b) = true
-is_arithmetic (Ushr a b) = true
-is_arithmetic op = false
 
 -- the table has all operands
 abbrev pub AreReady : List (Option (List Lit)) → Operands → Type 0

@@ -26,6 +26,12 @@ pub record IsSpareFor (trail lits : List Lit) (other lit : Lit) : Type 0 where
   pub apart : lit ≡ other → ⊥
   pub left : Stands trail (length trail) (opposite_of lit) → ⊥
 
+-- the one at an index
+pub record IsSpareAt (trail lits : List Lit) (other : Lit) (index : ℕ) : Type 0 where
+  pub lit : Lit
+  pub is : slice_get lits index ≡ Some lit
+  pub spare : IsSpareFor trail lits other lit
+
 -- the literals of the clause are false but for one
 abbrev pub AreFalseBut : List Lit → List Lit → Lit → Type 0
 AreFalseBut trail lits other =

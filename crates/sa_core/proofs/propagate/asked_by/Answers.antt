@@ -8,19 +8,20 @@ use Rattle.sa_core.proofs.AskLemmas.{all_false, clause_within}
 use Rattle.sa_core.proofs.propagate.asked_by.Goals as goal
 use Rattle.sa_core.proofs.propagate.asked_by.Goals.{in-Some-false, in-None}
 
-pub spare_of-requires : goal.spare_of-requires
-spare_of-requires c lit has =
-    clause_within c.args.trail.now.variables c.args.store.now c.args.place c.at.result.now lit c.requires.within
-    c.at.ensures has
+pub spare_from-requires : goal.spare_from-requires
+spare_from-requires c lit has =
+    clause_within c.args.trail.now.variables c.args.store.now c.args.place c.at-lits.result.now lit c.requires.within
+    c.at-lits.ensures has
 
-pub returns-in-None-spare_of : goal.returns-in-None-spare_of
-returns-in-None-spare_of c lits e =
+pub returns-in-None-spare_from : goal.returns-in-None-spare_from
+returns-in-None-spare_from c lits e =
     let trail = lits_of c.args.trail.now.steps in
-    let mine = c.at.result.now in
+    let mine = c.at-lits.result.now in
     elim c.match-value.branch [
       | in-Some-false w ↦
           subst (λ (asks : Asks). IsAskedOf trail lits c.args.pair c.args.lit asks) (sym w.last-is)
-          (all_false c.args.store.now trail c.args.place mine c.in-Some.other c.at.ensures c.in-None-spare_of.ensures
+          (all_false c.args.store.now trail c.args.place mine c.in-Some.other c.at-lits.ensures
+          c.in-None-spare_from.ensures
           (subst (λ (b : Bool). HasValue trail c.in-Some.other (Some b)) w.in-Some-false.field-0-test
           w.in-Some-false.ensures)
           lits e)
@@ -29,9 +30,9 @@ returns-in-None-spare_of c lits e =
           (record {
             is = c.in-Some.ensures;
             others = λ lit has ne.
-                c.in-None-spare_of.ensures lit
+                c.in-None-spare_from.ensures lit
                 (subst (λ (l : List Lit). Contains l lit)
-                (one_at c.args.store.now c.args.place lits mine e c.at.ensures) has)
+                (one_at c.args.store.now c.args.place lits mine e c.at-lits.ensures) has)
                 ne;
             unset = w.in-None.ensures;
           })

@@ -11,21 +11,21 @@ use Rattle.sa_core.proofs.propagate.spare_of.Goals.{else-ne-via-then-ne+else-is_
 abbrev first_lit : Lit
 first_lit = record { 0 = 0 }
 
-pub loop-lit-preserved : goal.loop-lit-preserved
-loop-lit-preserved c =
+pub loop-index-preserved : goal.loop-index-preserved
+loop-index-preserved c =
     let own = c.args.trail.now in
     let trail = lits_of own.steps in
     let lits = c.args.lits.now in
-    let i = c.loop-lit.lit-index in
+    let i = c.loop-index.index in
     let lit = get_or lits i first_lit in
-    subst (λ (l : List Lit). AreFalseBut trail l c.args.other) (sym (take_more lits i first_lit c.loop-lit-test.true))
+    subst (λ (l : List Lit). AreFalseBut trail l c.args.other) (sym (take_more lits i first_lit c.loop-index-test.true))
     (elim c.else-ne.branch [
       | else-ne-via-then-ne+else-is_none w ↦
-          false_more trail (take i lits) c.args.other lit c.loop-lit.invariant
+          false_more trail (take i lits) c.args.other lit c.loop-index.invariant
           (taken_stands own.steps own.places lit w.opposite.result own.placed w.opposite.ensures w.place_of.result
           w.place_of.ensures w.is_none.result w.is_none.ensures w.if-is_none.false)
       | else-ne-via-else-ne w ↦
-          false_same trail (take i lits) c.args.other lit c.loop-lit.invariant
+          false_same trail (take i lits) c.args.other lit c.loop-index.invariant
           (same_from_test lit c.args.other c.ne.result c.ne.ensures w.if-ne.false)
     ])
 
@@ -33,4 +33,4 @@ pub returns : goal.returns
 returns c =
     let lits = c.args.lits.now in
     subst (λ (l : List Lit). AreFalseBut (lits_of c.args.trail.now.steps) l c.args.other)
-    (take_all c.loop-lit.lit-index lits c.loop-lit-test.false) c.loop-lit.invariant
+    (take_all c.loop-index.index lits c.loop-index-test.false) c.loop-index.invariant

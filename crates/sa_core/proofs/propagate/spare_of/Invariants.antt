@@ -3,5 +3,5 @@ use Rattle.sa_core.specs.TrailView.{lits_of}
 use Rattle.sa_core.specs.Calls.Propagate.{AreFalseBut}
 use Rattle.sa_core.proofs.propagate.spare_of.Given as goal
 
-abbrev pub invariant-loop-lit : goal.invariant-loop-lit
-invariant-loop-lit l = AreFalseBut (lits_of l.trail.steps) (take l.lit-index l.lits) l.other
+abbrev pub invariant-loop-index : goal.invariant-loop-index
+invariant-loop-index l = AreFalseBut (lits_of l.trail.steps) (take l.index l.lits) l.other
