@@ -4,5 +4,6 @@ pub mod FollowLemmas
 pub mod KnownLemmas
 pub mod LocalLemmas
 pub mod PlaceLemmas
+pub mod RunLemmas
 pub mod SearchLemmas
 pub mod StackLemmas
