@@ -1,4 +1,5 @@
 pub mod AfterLemmas
+pub mod DescriptorLemmas
 pub mod EffectLemmas
 pub mod FollowLemmas
 pub mod KnownLemmas
