@@ -25,7 +25,7 @@ fn number(text: &str, place: usize) -> u16 {
 }
 
 /// The numbers of a text.
-fn numbers(alloc: Global, text: &str) -> Mem<List<u16>> {
+pub(crate) fn numbers(alloc: Global, text: &str) -> Mem<List<u16>> {
     let mut numbers = List::new(alloc);
     for word in text.split_whitespace() {
         if let Ok(number) = word.parse::<u16>() {
