@@ -14,7 +14,7 @@ use std::alloc::Global;
 use std::marker::Model;
 
 /// So many locals are in a run, but for the last.
-const RUN: usize = 256;
+const RUN: usize = 1024;
 
 /// What is known of locals, each by its index; behind the end none is known. They are kept in runs, and a copy and what
 /// comes of a store share those that stay.
