@@ -61,7 +61,7 @@ fn put_rows(alloc: Global, facts: &mut List<Fact>, pool: &[PoolEntry], rows: &[R
 }
 
 /// The first Code among attributes.
-fn code_of(attributes: &[Attribute]) -> Option<&Code>
+pub fn code_of(attributes: &[Attribute]) -> Option<&Code>
     ensures { option_copied result ≡ code_in attributes.now }
 {
     let mut rest = attributes;
@@ -75,7 +75,7 @@ fn code_of(attributes: &[Attribute]) -> Option<&Code>
 }
 
 /// The method of a name and a descriptor.
-fn declared<'a>(members: &'a [Member], method: &MethodId) -> Option<&'a Member>
+pub fn declared<'a>(members: &'a [Member], method: &MethodId) -> Option<&'a Member>
     ensures { option_copied result ≡ declared_in members.now method.now }
 {
     let mut rest = members;

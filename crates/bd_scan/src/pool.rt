@@ -81,7 +81,7 @@ fn member_at(
 }
 
 /// The field at an index (4.4.2).
-pub(crate) fn field_at(alloc: Global, pool: &[PoolEntry], index: u16) -> Mem<Option<FieldId>>
+pub fn field_at(alloc: Global, pool: &[PoolEntry], index: u16) -> Mem<Option<FieldId>>
     ensures { IfOk result (λ o. o ≡ field_at pool.now index) }
 {
     let Some(PoolEntry::Field(class, name_and_type)) = pool.get(usize::from(index)) else {
@@ -95,11 +95,7 @@ pub(crate) fn field_at(alloc: Global, pool: &[PoolEntry], index: u16) -> Mem<Opt
 }
 
 /// The method at an index, and whether it is one of an interface (4.4.2).
-pub(crate) fn method_at(
-    alloc: Global,
-    pool: &[PoolEntry],
-    index: u16,
-) -> Mem<Option<(MethodId, bool)>>
+pub fn method_at(alloc: Global, pool: &[PoolEntry], index: u16) -> Mem<Option<(MethodId, bool)>>
     ensures { IfOk result (λ o. o ≡ method_at pool.now index) }
 {
     let (class, name_and_type, interface) = match pool.get(usize::from(index)) {

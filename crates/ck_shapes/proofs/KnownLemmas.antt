@@ -158,29 +158,13 @@ module _ (o : Option Shape) (k shape : Shape) (is : o ≡ Some k) where
   pub met_differs : (k.stack ≡ shape.stack → ⊥) → HasOtherStack o shape
   met_differs other = subst (λ (x : Option Shape). HasOtherStack x shape) (sym is) other
 
-  pub met_stays : (a b : Locals) → a ≡ k.locals → b ≡ shape.locals → k.stack ≡ shape.stack → IsKnownLess a b
-      → StandsFor o shape
-  met_stays a b p q same less =
-      subst (λ (x : Option Shape). StandsFor x shape) (sym is)
-      (record {
-        stack = same;
-        locals = subst (λ (x : Locals). IsKnownLess x shape.locals) p
-            (subst (λ (x : Locals). IsKnownLess a x) q less);
-      })
+  pub met_stays : k.stack ≡ shape.stack → IsKnownLess k.locals shape.locals → StandsFor o shape
+  met_stays same less =
+      subst (λ (x : Option Shape). StandsFor x shape) (sym is) (record { stack = same; locals = less })
 
-  pub met_becomes : (a b e f : Locals) (both : Shape) → a ≡ k.locals → b ≡ shape.locals → e ≡ k.locals
-      → f ≡ shape.locals
-      → k.stack ≡ shape.stack → both.stack ≡ shape.stack → IsKnownOnlyHere a b → AreCommon e f both.locals
-      → length both.locals ≤ length e → JoinsTo o shape both
-  met_becomes a b e f both p q r s same stack only common long =
-      subst (λ (x : Option Shape). JoinsTo x shape both) (sym is) (
-        record {
-          same = same;
-          stack = stack;
-          locals = subst (λ (x : Locals). AreCommon x shape.locals both.locals) r
-              (subst (λ (x : Locals). AreCommon e x both.locals) s common);
-          long = omega (arith, long, ap length r);
-        },
-        subst (λ (x : Locals). IsKnownOnlyHere x shape.locals) p
-            (subst (λ (x : Locals). IsKnownOnlyHere a x) q only),
-      )
+  pub met_becomes : (both : Shape) → k.stack ≡ shape.stack → both.stack ≡ shape.stack
+      → IsKnownOnlyHere k.locals shape.locals → AreCommon k.locals shape.locals both.locals
+      → length both.locals ≤ length k.locals → JoinsTo o shape both
+  met_becomes both same stack only common long =
+      subst (λ (x : Option Shape). JoinsTo x shape both) (sym is)
+      (record { same = same; stack = stack; locals = common; long = long }, only)

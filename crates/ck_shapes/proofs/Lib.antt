@@ -1,8 +1,10 @@
 pub mod AfterLemmas
+pub mod DescriptorLemmas
 pub mod EffectLemmas
 pub mod FollowLemmas
 pub mod KnownLemmas
 pub mod LocalLemmas
 pub mod PlaceLemmas
+pub mod RunLemmas
 pub mod SearchLemmas
 pub mod StackLemmas

@@ -5,7 +5,8 @@ ghost use Rattle.ck_shapes.specs.Shape.{IsAfter};
 ghost use Rattle.ck_shapes.specs.Calls.Joins.{HasStack, KeepsCount};
 
 use crate::effect::Effect;
-use crate::local::{has_room, holds, store};
+use crate::local::has_room;
+use crate::locals::{holds, store};
 use crate::shape::{Limits, Shape, ValueType};
 use crate::stack::{moved, replaced};
 use jv_list::{List, Mem};
@@ -41,7 +42,7 @@ impl Shape {
         let Some(stack) = stack else {
             return Ok(None);
         };
-        let locals = List::copied(alloc, self.locals.as_slice())?;
+        let locals = self.locals.copy(alloc)?;
         Ok(Some(Shape { locals, stack }))
     }
 
@@ -49,7 +50,7 @@ impl Shape {
         ensures steps { IfOk result (IsAfter limits (Effect.Loads of index) self.now) }
         ensures within { IfOk result (λ found. IfSome found (λ new. KeepsCount limits self.now new)) }
     {
-        if !holds(limits, self.locals.as_slice(), of, index) {
+        if !holds(limits, &self.locals, of, index) {
             return Ok(None);
         }
         let mut after = self.copy(alloc)?;
@@ -70,7 +71,7 @@ impl Shape {
         if *top != of {
             return Ok(None);
         }
-        let locals = store(alloc, self.locals.as_slice(), of, index)?;
+        let locals = store(alloc, limits, &self.locals, of, index)?;
         let stack = List::copied(alloc, rest)?;
         Ok(Some(Shape { locals, stack }))
     }
@@ -79,7 +80,7 @@ impl Shape {
         ensures steps { IfOk result (IsAfter limits (Effect.Increments index) self.now) }
         ensures within { IfOk result (λ found. IfSome found (λ new. KeepsCount limits self.now new)) }
     {
-        if !holds(limits, self.locals.as_slice(), ValueType::Int, index) {
+        if !holds(limits, &self.locals, ValueType::Int, index) {
             return Ok(None);
         }
         Ok(Some(self.copy(alloc)?))

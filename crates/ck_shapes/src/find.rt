@@ -29,7 +29,7 @@ pub fn find_shapes(alloc: Global, flow: &Flow) -> Mem<Option<Shapes>>
     ensures { IfOk result (AreShapesOf flow.now) }
 {
     let limits = flow.limits;
-    if flow.start.locals.length() > usize::from(limits.max_locals) {
+    if !flow.start.locals.are_at_most(limits.max_locals) {
         return Ok(None);
     }
     let places = places_of(alloc, flow.steps.as_slice())?;

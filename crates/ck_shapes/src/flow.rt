@@ -48,7 +48,7 @@ impl Shape {
         let mut stack = List::new(alloc);
         stack.add(ValueType::Reference)?;
         Ok(Shape {
-            locals: List::copied(alloc, self.locals.as_slice())?,
+            locals: self.locals.copy(alloc)?,
             stack,
         })
     }

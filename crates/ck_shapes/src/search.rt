@@ -5,7 +5,7 @@ ghost use Rattle.ck_shapes.specs.Calls.Places.{ArePlaces};
 ghost use Rattle.ck_shapes.specs.Calls.Search.{IsMeeting, Leads, Stand, AreBelow, CanStand, IsSound, Weakens};
 
 use crate::flow::Flow;
-use crate::local::{common_locals, is_known_less};
+use crate::locals::{are_less, common};
 use crate::shape::{Limits, Shape};
 use crate::stack::has_words;
 use crate::way::way_of;
@@ -40,10 +40,10 @@ fn met(alloc: Global, known: &Option<Shape>, shape: &Shape) -> Mem<Meeting>
     if known.stack.as_slice() != shape.stack.as_slice() {
         return Ok(Meeting::Differs);
     }
-    if is_known_less(known.locals.as_slice(), shape.locals.as_slice()) {
+    if are_less(alloc, &known.locals, &shape.locals)? {
         return Ok(Meeting::Stays);
     }
-    let locals = common_locals(alloc, known.locals.as_slice(), shape.locals.as_slice())?;
+    let locals = common(alloc, &known.locals, &shape.locals)?;
     let stack = List::copied(alloc, shape.stack.as_slice())?;
     Ok(Meeting::Becomes(Shape { locals, stack }))
 }

@@ -2,6 +2,7 @@
 ghost use Rattle.std.specs.Prelude.{◌≡◌, IfOk};
 ghost use Rattle.ck_shapes.specs.Shape.{width};
 
+use crate::locals::Locals;
 use jv_list::{List, Mem};
 use std::alloc::Global;
 
@@ -27,11 +28,10 @@ impl ValueType {
 }
 
 /// What is known of a frame where an instruction begins (JVM Specification SE 8, 4.10.1.2). A long stands at the first
-/// of its two locals, and nothing at the second; behind the end of the list no local is known. The stack's top is last,
-/// and a long is one value there.
+/// of its two locals, and nothing at the second. The stack's top is last, and a long is one value there.
 #[derive(Debug, Drop)]
 pub struct Shape {
-    pub locals: List<Option<ValueType>>,
+    pub locals: Locals,
     pub stack: List<ValueType>,
 }
 
@@ -40,7 +40,7 @@ impl Shape {
         ensures { IfOk result (λ copy. copy ≡ self.now) }
     {
         Ok(Shape {
-            locals: List::copied(alloc, self.locals.as_slice())?,
+            locals: self.locals.copy(alloc)?,
             stack: List::copied(alloc, self.stack.as_slice())?,
         })
     }

@@ -1,5 +1,5 @@
 // Code, written out: instructions with commas between them, each at the pc that is its number.
-use ck_shapes::{Action, Effect, Flow, Handler, Limits, Move, Shape, Step, ValueType};
+use ck_shapes::{Action, Effect, Flow, Handler, Limits, Locals, Move, Shape, Step, ValueType};
 use jv_list::{List, Mem};
 use std::alloc::Global;
 
@@ -25,7 +25,7 @@ fn number(text: &str, place: usize) -> u16 {
 }
 
 /// The numbers of a text.
-fn numbers(alloc: Global, text: &str) -> Mem<List<u16>> {
+pub(crate) fn numbers(alloc: Global, text: &str) -> Mem<List<u16>> {
     let mut numbers = List::new(alloc);
     for word in text.split_whitespace() {
         if let Ok(number) = word.parse::<u16>() {
@@ -149,7 +149,7 @@ pub(crate) fn flow(alloc: Global, row: &str) -> Mem<Flow> {
         max_locals: number(cell(row, 0), 1),
     };
     let start = Shape {
-        locals: locals(alloc, cell(row, 1))?,
+        locals: Locals::new(alloc, locals(alloc, cell(row, 1))?.as_slice())?,
         stack: List::new(alloc),
     };
     Ok(Flow {

@@ -100,11 +100,8 @@ fn what_is_known_at_a_join_is_common(rt: HostRuntime) -> Result<(), Fail> {
     };
     if let Some(shape) = shapes.at(4) {
         assert!(rt; shape.stack.is_empty());
-        assert_eq!(rt; shape.locals.get(0).copied(), Some(None));
-        assert_eq!(rt;
-            shape.locals.get(1).copied(),
-            Some(Some(ValueType::Reference))
-        );
+        assert_eq!(rt; shape.locals.at(0), None);
+        assert_eq!(rt; shape.locals.at(1), Some(ValueType::Reference));
     }
     assert!(rt; shapes.at(4).is_some());
     assert!(rt; shapes.at(5).is_none());

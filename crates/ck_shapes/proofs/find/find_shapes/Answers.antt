@@ -34,7 +34,7 @@ loop-pc-init c =
     ap length c.in_ok-known.ensures.shapes ∙ length-replicate c.len.result _ ∙ counted in
     let stands =
     lead_stands flow.limits known 0 flow.start c.lead.new.known c.in_ok-lead.field-0
-    (omega (arith, c.if-length-from.false, c.length.ensures, c.from.ensures)) c.in_ok-lead.ensures
+    (c.are_at_most.ensures.0 (c.if-not-are_at_most.false)) c.in_ok-lead.ensures
     c.if-not-branch.false in
     record {
       sound = start_sound flow known c.lead.new.known c.len.result c.in_ok-known.ensures.shapes stands.0 stands.1;

@@ -10,22 +10,18 @@ returns-then-ne c =
     (λ same. other_stacks c.as_slice.result.now c.as_slice-2.result.now c.if-ne.ensures
     (c.as_slice.ensures ∙ same ∙ sym c.as_slice-2.ensures))
 
-pub returns-then-is_known_less : goal.returns-then-is_known_less
-returns-then-is_known_less c =
-    met_stays c.args.known.now c.in-Some.known c.args.shape.now c.in-Some.is c.as_slice-3.result.now
-    c.as_slice-4.result.now c.as_slice-3.ensures c.as_slice-4.ensures
+pub returns-then-branch : goal.returns-then-branch
+returns-then-branch c =
+    met_stays c.args.known.now c.in-Some.known c.args.shape.now c.in-Some.is
     (sym c.as_slice.ensures ∙ same_stacks c.as_slice.result.now c.as_slice-2.result.now c.if-ne.ensures
     ∙ c.as_slice-2.ensures)
-    (c.is_known_less.ensures.yes c.if-is_known_less.true)
+    (c.in_ok-are_less.ensures.yes c.if-branch.true)
 
 pub returns : goal.returns
 returns c =
     let both : Shape = record { locals = c.in_ok-locals.locals; stack = c.in_ok-stack.stack } in
-    met_becomes c.args.known.now c.in-Some.known c.args.shape.now c.in-Some.is c.as_slice-3.result.now
-    c.as_slice-4.result.now c.as_slice-5.result.now c.as_slice-6.result.now both
-    c.as_slice-3.ensures c.as_slice-4.ensures c.as_slice-5.ensures c.as_slice-6.ensures
+    met_becomes c.args.known.now c.in-Some.known c.args.shape.now c.in-Some.is both
     (sym c.as_slice.ensures ∙ same_stacks c.as_slice.result.now c.as_slice-2.result.now c.if-ne.ensures
     ∙ c.as_slice-2.ensures)
-    (c.in_ok-stack.ensures ∙ c.as_slice-7.ensures)
-    (c.is_known_less.ensures.no c.if-is_known_less.false) c.in_ok-locals.ensures.common
-    c.in_ok-locals.ensures.within
+    (c.in_ok-stack.ensures ∙ c.as_slice-3.ensures)
+    (c.in_ok-are_less.ensures.no c.if-branch.false) c.in_ok-locals.ensures.common c.in_ok-locals.ensures.within
