@@ -1,0 +1,7 @@
+// Laws of the definitions, each the contract of a function that does nothing.
+ghost use Rattle.bd_core.specs.Laws.{LeastIsContained};
+
+/// The least set is contained in each set that is closed under the rules; so there is one only.
+pub fn least_is_contained()
+    ensures { LeastIsContained }
+{}
