@@ -3,7 +3,8 @@ use crate::entries::repeated;
 use crate::sites::is_bad;
 use crate::tables::{number_of, rows, two_of};
 use jv_base::{
-    Desc, Name, TextFault, Ty, one_descriptor, one_field_type, read_descriptor, read_field_type,
+    Desc, Name, TextFault, Ty, one_descriptor, one_field_type, one_form, read_descriptor,
+    read_field_type,
 };
 use std::alloc::Global;
 
@@ -96,6 +97,7 @@ fn descriptors_are_read(rt: HostRuntime) {
     );
     one_descriptor();
     one_field_type();
+    one_form();
 }
 
 #[test]

@@ -7,9 +7,9 @@ use Rattle.std.proofs.lemmas.Bool.{false≢true}
 use Rattle.std.proofs.lemmas.List.{append-nil}
 use Rattle.std.proofs.lemmas.List.Elements.{All-nil, All-cons, All-head, All-tail, All-weaker, All-append}
 use Rattle.jv_base.specs.Names.{IsNameByte, IsUnqualifiedName, IsClassName}
-use Rattle.jv_base.specs.Descriptor.{ElementType, base, object, FieldType, is_base_letter, IsElementType, IsFieldType}
-use Rattle.jv_base.specs.Descriptor.{IsFieldDescriptor, IsMethodDescriptor, class_text, element_text, field_text}
-use Rattle.jv_base.specs.Descriptor.{result_text, method_text}
+use Rattle.jv_base.specs.Descriptor.{ElementType, base, object, FieldType, MethodType, is_base_letter, IsElementType}
+use Rattle.jv_base.specs.Descriptor.{IsFieldType, IsMethodType, IsFieldDescriptor, IsMethodDescriptor, class_text}
+use Rattle.jv_base.specs.Descriptor.{element_text, field_text, result_text, method_text}
 use Rattle.jv_base.specs.Calls.Fronts.{HasFront}
 use Rattle.jv_list.proofs.CutLemmas.{cons_same, cut_same, not_without, run_same}
 use Rattle.jv_list.proofs.ToldLemmas.{BeginsNone, told}
@@ -175,6 +175,27 @@ result_told (Some t) (Some u) h k e =
     ap (λ (f : FieldType). Some f) (field_told t u [] [] h k whole).0
 
 -- ---- descriptors
+
+pub field_alone : (t u : FieldType) → IsFieldType t → IsFieldType u → field_text t ≡ field_text u → t ≡ u
+field_alone t u h k e =
+    (field_told t u [] [] h k (append-nil (field_text t) ∙ e ∙ sym (append-nil (field_text u)))).0
+
+pub method_alone : (m n : MethodType) → IsMethodType m → IsMethodType n → method_text m ≡ method_text n → m ≡ n
+method_alone m n h k e =
+    let behind : MethodType → List ℕ = λ t. 41 ∷ result_text t.result in
+    let split : (t : MethodType) → (flat_map field_text t.parameters ++ 41 ∷ []) ++ result_text t.result
+    ≡ flat_map field_text t.parameters ++ behind t =
+    λ t. append_assoc (flat_map field_text t.parameters) (41 ∷ []) (result_text t.result) in
+    let inner : (flat_map field_text m.parameters ++ 41 ∷ []) ++ result_text m.result
+    ≡ (flat_map field_text n.parameters ++ 41 ∷ []) ++ result_text n.result =
+    cc in
+    let parts = parameters_told m.parameters n.parameters (behind m) (behind n) h.0 k.0
+    (no_field_closed (result_text m.result)) (no_field_closed (result_text n.result))
+    (sym (split m) ∙ inner ∙ split n) in
+    let results : result_text m.result ≡ result_text n.result = let whole = parts.1 in cc in
+    let type : List FieldType → Option FieldType → MethodType = λ ps r. record { parameters = ps; result = r } in
+    ap (λ (ps : List FieldType). type ps m.result) parts.0
+    ∙ ap (λ (r : Option FieldType). type n.parameters r) (result_told m.result n.result h.1 k.1 results)
 
 -- what follows the parameters of a descriptor is `)` and a result
 method_parts : (text parameters rest : List ℕ) → text ≡ 40 ∷ parameters

@@ -20,7 +20,7 @@ use Rattle.jv_base.specs.Names.{IsClassName}
 use Rattle.jv_base.specs.Descriptor.{ElementType, base, object, FieldType, MethodType, is_base_letter, IsElementType}
 use Rattle.jv_base.specs.Descriptor.{IsFieldType, IsMethodType, element_text, field_text, result_text, method_text}
 use Rattle.jv_base.specs.Types.{field_layer, field_of, result_of, method_of}
-use Rattle.jv_base.proofs.DescriptorLemmas.{field_told, parameters_told, result_told, no_field_closed}
+use Rattle.jv_base.proofs.DescriptorLemmas.{field_told, field_alone, method_alone}
 
 -- ---- reading a type
 
@@ -122,28 +122,15 @@ results_back (Some t) = ap (λ (s : Ty). Some s) (type_back t)
 
 pub field_same : (a b : Ty) → IsFieldType (field_of a) → IsFieldType (field_of b)
     → field_text (field_of a) ≡ field_text (field_of b) → a ≡ b
-field_same a b h k e =
-    let whole = append-nil (field_text (field_of a)) ∙ e ∙ sym (append-nil (field_text (field_of b))) in
-    sym (type_back a) ∙ ap type_of (field_told (field_of a) (field_of b) [] [] h k whole).0 ∙ type_back b
+field_same a b h k e = sym (type_back a) ∙ ap type_of (field_alone (field_of a) (field_of b) h k e) ∙ type_back b
 
 pub descriptor_same : (a b : Desc) → IsMethodType (method_of a) → IsMethodType (method_of b)
     → method_text (method_of a) ≡ method_text (method_of b) → a ≡ b
 descriptor_same a b h k e =
-    let m : MethodType = method_of a in
-    let n : MethodType = method_of b in
-    let behind : MethodType → List ℕ = λ t. 41 ∷ result_text t.result in
-    let split : (t : MethodType) → (flat_map field_text t.parameters ++ 41 ∷ []) ++ result_text t.result
-    ≡ flat_map field_text t.parameters ++ behind t =
-    λ t. append_assoc (flat_map field_text t.parameters) (41 ∷ []) (result_text t.result) in
-    let inner : (flat_map field_text m.parameters ++ 41 ∷ []) ++ result_text m.result
-    ≡ (flat_map field_text n.parameters ++ 41 ∷ []) ++ result_text n.result =
-    cc in
-    let parts = parameters_told m.parameters n.parameters (behind m) (behind n) h.0 k.0
-    (no_field_closed (result_text m.result)) (no_field_closed (result_text n.result))
-    (sym (split m) ∙ inner ∙ split n) in
-    let results : result_text m.result ≡ result_text n.result = let whole = parts.1 in cc in
-    let params : a.params ≡ b.params = sym (types_back a.params) ∙ ap (map type_of) parts.0 ∙ types_back b.params in
-    let told : result_of a.result ≡ result_of b.result = result_told m.result n.result h.1 k.1 results in
+    let same : method_of a ≡ method_of b = method_alone (method_of a) (method_of b) h k e in
+    let types : map field_of a.params ≡ map field_of b.params = ap (λ (m : MethodType). m.parameters) same in
+    let told : result_of a.result ≡ result_of b.result = ap (λ (m : MethodType). m.result) same in
+    let params : a.params ≡ b.params = sym (types_back a.params) ∙ ap (map type_of) types ∙ types_back b.params in
     let result : a.result ≡ b.result = sym (results_back a.result) ∙ ap result_back told ∙ results_back b.result in
     let desc : List Ty → Option Ty → Desc = λ ps r. record { params = ps; result = r } in
     ap (λ (ps : List Ty). desc ps a.result) params ∙ ap (λ (r : Option Ty). desc b.params r) result

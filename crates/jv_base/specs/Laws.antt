@@ -7,11 +7,17 @@ use Rattle.jv_base.specs.declared.method.MethodId.{MethodId}
 use Rattle.jv_base.specs.declared.value.Desc.{Desc}
 use Rattle.jv_base.specs.declared.value.Ty.{Ty}
 use Rattle.jv_base.specs.Names.{IsClassName}
-use Rattle.jv_base.specs.Descriptor.{IsFieldType, IsMethodType, field_text, method_text, IsFieldDescriptor, IsMethodDescriptor}
+use Rattle.jv_base.specs.Descriptor.{FieldType, MethodType, IsFieldType, IsMethodType, field_text, method_text}
+use Rattle.jv_base.specs.Descriptor.{IsFieldDescriptor, IsMethodDescriptor}
 use Rattle.jv_base.specs.Entry.{IsEntryMethod, IsAnyMethodName, IsSite}
 use Rattle.jv_base.specs.Order.{goal_cmp}
 use Rattle.jv_base.specs.Spelling.{entry_spelling, site_spelling}
 use Rattle.jv_base.specs.Types.{field_of, method_of}
+
+-- a text is a descriptor in one way only
+pub record OneForm : Type 0 where
+  pub field : (t u : FieldType) → IsFieldType t → IsFieldType u → field_text t ≡ field_text u → t ≡ u
+  pub method : (m n : MethodType) → IsMethodType m → IsMethodType n → method_text m ≡ method_text n → m ≡ n
 
 -- no two field types have one text
 abbrev pub OneFieldType : Type 0

@@ -1,5 +1,11 @@
 // Laws of the definitions, each the contract of a function that does nothing.
-ghost use Rattle.jv_base.specs.Laws.{FormsDecided, OneFieldType, OneDescriptor, OneEntry, OneSite, GoalOrder};
+ghost use Rattle.jv_base.specs.Laws.{FormsDecided, OneForm, OneFieldType, OneDescriptor, OneEntry, OneSite, GoalOrder};
+
+/// A text is a descriptor in one way only: no two forms of field types, and no two of methods, have one text (JVM
+/// Specification SE 8, 4.3).
+pub fn one_form()
+    ensures { OneForm }
+{}
 
 /// No two field types have one text, so what `read_field_type` gives is the one with this text.
 pub fn one_field_type()

@@ -24,7 +24,9 @@ pub use fault::TextFault;
 pub use form::{is_any_method_name, is_class_name, is_field_descriptor, is_method_descriptor};
 pub use input::{Input, Part, Tree};
 pub use jv_list::{List, Mem, TryCopy};
-pub use laws::{forms_decided, goal_order, one_descriptor, one_entry, one_field_type, one_site};
+pub use laws::{
+    forms_decided, goal_order, one_descriptor, one_entry, one_field_type, one_form, one_site,
+};
 pub use method::{Bounds, FieldId, Goal, Kind, MethodId, Site};
 pub use name::Name;
 pub use order::compare_goals;

@@ -5,7 +5,7 @@ use crate::{Mem, Name, TryCopy};
 use std::alloc::Global;
 
 /// A method by its class, name and descriptor (JVM Specification SE 8, 4.3.3).
-#[derive(Debug, Drop, PartialEq, Eq)]
+#[derive(Debug, Drop, PartialEq, Eq, Hash)]
 pub struct MethodId {
     pub class: Name,
     pub name: Name,
@@ -31,7 +31,7 @@ impl TryCopy for MethodId {
 }
 
 /// A field by its class, name and descriptor (JVM Specification SE 8, 4.3.2).
-#[derive(Debug, Drop, PartialEq, Eq)]
+#[derive(Debug, Drop, PartialEq, Eq, Hash)]
 pub struct FieldId {
     pub class: Name,
     pub name: Name,

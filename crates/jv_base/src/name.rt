@@ -3,12 +3,14 @@ ghost use Rattle.std.specs.Prelude.{◌≡◌, ◌<◌, [], ◌++◌, length, sl
 ghost use Rattle.std.specs.Ordering.{nat_cmp};
 ghost use Rattle.std.specs.Cmp.Lexicographic.{slice_cmp, pointwise};
 ghost use Rattle.std.specs.Prelude.{nat_eq};
-ghost use Rattle.std.specs.Cmp.Rules.{comparing};
+ghost use Rattle.std.specs.Cmp.Rules.{comparing, hashing};
+ghost use Rattle.std.specs.Hash as fed;
 ghost use Rattle.std.proofs.Common.{rules};
 
 use crate::{Mem, TryCopy};
 use std::alloc::Global;
 use std::cmp::Ordering;
+use std::hash::{Hash, Hasher};
 use std::marker::Model;
 
 /// A text that contracts see as the list of its UTF-8 bytes: the name of a class, a field, a method or a file, or a
@@ -123,6 +125,16 @@ impl PartialEq for Name {
 
 impl Eq for Name {
     ghost laws = { Prim.search (comparing, rules) };
+}
+
+impl Hash for Name {
+    ghost hash_input = { λ n. fed.str n };
+
+    ghost respects_eq = { Prim.search (hashing, rules) };
+
+    fn hash<H: Hasher>(&self, state: &mut H) {
+        self.as_str().hash(state);
+    }
 }
 
 impl TryCopy for Name {
