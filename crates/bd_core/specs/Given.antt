@@ -14,9 +14,9 @@ use Rattle.cf_class.specs.declared.class_file.ClassFile.{ClassFile}
 use Rattle.lib_rows.specs.Classes.{class_name}
 use Rattle.lib_rows.specs.declared.class.Builtin.TheVariants.{Object, String}
 use Rattle.bd_scan.specs.declared.fact.Fact.{Fact}
-use Rattle.bd_scan.specs.Methods.{code_in}
+use Rattle.cf_class.specs.Members.{member_in, code_in}
 use Rattle.hi_tree.specs.Classes.{read, known_class}
-use Rattle.hi_tree.specs.Members.{has_flag, member_in}
+use Rattle.hi_tree.specs.Members.{has_flag}
 use Rattle.hi_tree.specs.Inputs.{class_type, IsMade, StandsAt}
 
 -- the class files that were given, and the facts of the methods that were

@@ -1,15 +1,11 @@
 -- What stands at an index of the constant pool (JVM Specification SE 8, 4.4). Where something else stands there,
 -- nothing does; in a class file that was read, each index finds what it has to (4.9.1).
-use Rattle.std.specs.Prelude.{ℕ, Bool, true, false, List, Option, Some, None, slice_get, encode_utf8_all, if◌then◌else◌}
-use Rattle.std.specs.Char.Utf16.{utf16_lossy_chars, has_unpaired_surrogate}
+use Rattle.std.specs.Prelude.{ℕ, Bool, true, false, List, Option, Some, None, slice_get}
 use Rattle.jv_base.specs.declared.method.MethodId.{MethodId}
 use Rattle.jv_base.specs.declared.method.FieldId.{FieldId}
+use Rattle.cf_judge.specs.Forms.{name_of}
 use Rattle.cf_pool.specs.declared.entry.PoolEntry.{PoolEntry}
 use Rattle.cf_pool.specs.declared.entry.PoolEntry.TheVariants.{Utf8, Class, Field, Method, InterfaceMethod, NameAndType}
-
--- the UTF-8 text of UTF-16 units, of which a surrogate that stands alone is none
-abbrev pub name_of : List ℕ → Option (List ℕ)
-name_of units = if has_unpaired_surrogate units then None else Some (encode_utf8_all (utf16_lossy_chars units))
 
 -- the units of a text (4.4.7)
 abbrev pub units_in : Option PoolEntry → Option (List ℕ)

@@ -14,5 +14,5 @@ mod used;
 pub use cf_code::FieldUse;
 pub use fact::{Fact, Why};
 pub use laws::{class_names, float_descriptors, refused_opcodes};
-pub use method::{code_of, declared, scan};
+pub use method::scan;
 pub use pool::{field_at, method_at};

@@ -1,8 +1,8 @@
 // The facts of a method.
-ghost use Rattle.std.specs.Prelude.{◌≡◌, ◌++◌, option_copied, IfOk, OnOk};
+ghost use Rattle.std.specs.Prelude.{◌≡◌, ◌++◌, IfOk, OnOk};
 ghost use Rattle.std.specs.List.{flat_map};
 ghost use Rattle.bd_scan.specs.Facts.{instr_facts, row_facts};
-ghost use Rattle.bd_scan.specs.Methods.{code_in, declared_in, facts};
+ghost use Rattle.bd_scan.specs.Methods.{facts};
 
 use crate::descriptor::has_float;
 use crate::exception::put_exceptions;
@@ -11,7 +11,7 @@ use crate::named::{put_name, put_named};
 use crate::opcode::unsupported_opcode;
 use crate::pool::class_at;
 use crate::used::{put_float, put_operands};
-use cf_class::{Attribute, Body, ClassFile, Code, Member};
+use cf_class::{ClassFile, code_in, member_in};
 use cf_code::{Placed, Row};
 use cf_pool::PoolEntry;
 use jv_base::{List, Mem, MethodId};
@@ -60,36 +60,6 @@ fn put_rows(alloc: Global, facts: &mut List<Fact>, pool: &[PoolEntry], rows: &[R
     Ok(())
 }
 
-/// The first Code among attributes.
-pub fn code_of(attributes: &[Attribute]) -> Option<&Code>
-    ensures { option_copied result ≡ code_in attributes.now }
-{
-    let mut rest = attributes;
-    while let [attribute, after @ ..] = rest {
-        if let Body::Code(code) = &attribute.body {
-            return Some(code);
-        }
-        rest = after;
-    }
-    None
-}
-
-/// The method of a name and a descriptor.
-pub fn declared<'a>(members: &'a [Member], method: &MethodId) -> Option<&'a Member>
-    ensures { option_copied result ≡ declared_in members.now method.now }
-{
-    let mut rest = members;
-    while let [member, after @ ..] = rest {
-        if member.name.name.as_str() == method.name.as_str()
-            && member.desc.name.as_str() == method.desc.as_str()
-        {
-            return Some(member);
-        }
-        rest = after;
-    }
-    None
-}
-
 /// The facts of a method of a class, which is known by its name and its descriptor: those of its descriptor, of each
 /// instruction in order, and of each row of the exception table in order. A method without code has those of its
 /// descriptor alone.
@@ -98,10 +68,10 @@ pub fn scan(alloc: Global, class: &ClassFile, method: &MethodId) -> Mem<List<Fac
 {
     let mut found = List::new(alloc);
     put_float(&mut found, 0, has_float(method.desc.as_str().as_bytes()))?;
-    let Some(member) = declared(class.methods.as_slice(), method) else {
+    let Some(member) = member_in(class.methods.as_slice(), &method.name, &method.desc) else {
         return Ok(found);
     };
-    let Some(code) = code_of(member.attributes.as_slice()) else {
+    let Some(code) = code_in(member.attributes.as_slice()) else {
         return Ok(found);
     };
     let pool = class.pool.entries.as_slice();

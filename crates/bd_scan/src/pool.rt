@@ -1,21 +1,12 @@
 // What stands at an index of the constant pool (JVM Specification SE 8, 4.4).
 ghost use Rattle.std.specs.Prelude.{◌≡◌, option_copied, IfOk};
-ghost use Rattle.bd_scan.specs.Pool.{name_of, units_at, name_at, class_at, name_and_type_at, member_at, field_at};
+ghost use Rattle.bd_scan.specs.Pool.{units_at, name_at, class_at, name_and_type_at, member_at, field_at};
 ghost use Rattle.bd_scan.specs.Pool.{method_at};
 
+use cf_judge::name_of_units;
 use cf_pool::PoolEntry;
 use jv_base::{FieldId, Mem, MethodId, Name};
 use std::alloc::Global;
-
-/// The text of UTF-16 units, of which a surrogate that stands alone is none.
-fn name_of(alloc: Global, units: &[u16]) -> Mem<Option<Name>>
-    ensures { IfOk result (λ o. o ≡ name_of units.now) }
-{
-    match String::from_utf16(alloc, units)? {
-        Ok(text) => Ok(Some(Name::from_string(text))),
-        Err(_) => Ok(None),
-    }
-}
 
 /// The units of the text at an index (4.4.7).
 pub(crate) fn units_at(pool: &[PoolEntry], index: u16) -> Option<&[u16]>
@@ -31,7 +22,7 @@ fn name_at(alloc: Global, pool: &[PoolEntry], index: u16) -> Mem<Option<Name>>
     ensures { IfOk result (λ o. o ≡ name_at pool.now index) }
 {
     match units_at(pool, index) {
-        Some(units) => name_of(alloc, units),
+        Some(units) => name_of_units(alloc, units),
         None => Ok(None),
     }
 }

@@ -1,3 +1,4 @@
 pub mod Content
 pub mod Laws
 pub mod Calls
+pub mod Members

@@ -45,5 +45,6 @@ pub use object::Object;
 pub use size::instr_size;
 pub use stack::StackMove;
 pub use switch::{Case, LookupSwitch, TableSwitch};
+pub use target::{goes_on, targets};
 pub use transfer::{Row, transfers};
 pub use word::{Returned, Word};

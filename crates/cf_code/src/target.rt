@@ -11,7 +11,7 @@ use jv_base::{List, Mem};
 use std::alloc::Global;
 
 /// The targets that an instruction names: that of a jump, or those of a switch, its default first.
-pub(crate) fn targets(alloc: Global, instr: &Instr) -> Mem<List<u16>>
+pub fn targets(alloc: Global, instr: &Instr) -> Mem<List<u16>>
     ensures { IfOk result (λ found. found ≡ targets instr.now) }
 {
     let mut found = List::new(alloc);
@@ -41,7 +41,7 @@ fn put_case_targets(out: &mut List<u16>, cases: &[Case]) -> Mem<()>
 }
 
 /// Whether an instruction can go on to the next one: not a goto, a jsr or a ret, a switch, a return or a throw.
-pub(crate) fn goes_on(instr: &Instr) -> bool
+pub fn goes_on(instr: &Instr) -> bool
     ensures { result ≡ goes_on instr.now }
 {
     match instr {

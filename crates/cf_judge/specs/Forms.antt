@@ -1,6 +1,6 @@
 -- Names and descriptors in the constant pool (JVM Specification SE 8, 4.2, 4.3 and 4.4.7): by their UTF-16 units.
-use Rattle.std.specs.Prelude.{◌≡◌, ◌≢◌, ℕ, ◌<◌, List, All, map, slice_get, Some, ◌⊎◌}
-use Rattle.std.specs.Char.Utf16.{utf16_chars}
+use Rattle.std.specs.Prelude.{◌≡◌, ◌≢◌, ℕ, ◌<◌, List, All, map, slice_get, Option, Some, None, if◌then◌else◌, ◌⊎◌}
+use Rattle.std.specs.Char.Utf16.{utf16_chars, utf16_lossy_chars, has_unpaired_surrogate}
 use Rattle.std.specs.Str.{encode_utf8_all}
 use Rattle.jv_base.specs.Names.{IsUnqualifiedName, IsClassName}
 use Rattle.jv_base.specs.Entry.{IsAnyMethodName}
@@ -15,6 +15,10 @@ pub record IsNameOf (units name : List ℕ) : Type 0 where
   pub characters : List ℕ
   pub spelled : utf16_chars units ≡ map Some characters
   pub name_is : name ≡ encode_utf8_all characters
+
+-- that name, by its units
+abbrev pub name_of : List ℕ → Option (List ℕ)
+name_of units = if has_unpaired_surrogate units then None else Some (encode_utf8_all (utf16_lossy_chars units))
 
 -- a field type with a dimension
 abbrev pub IsArrayDescriptor : List ℕ → Type 0

@@ -1,7 +1,7 @@
 // The texts of a pool, each with the forms that it has (JVM Specification SE 8, 4.4.7).
 ghost use Rattle.std.specs.Prelude.{◌≡◌, ℕ, ◌+◌, ◌<◌, false, List as list_of, Option, None, length, take, option_copied, unwrap_or, slice_get, if◌then◌else◌, IfOk, IfSome, IfNone};
 ghost use Rattle.std.specs.Str.{bytes_eq};
-ghost use Rattle.cf_judge.specs.Forms.{IsNameOf};
+ghost use Rattle.cf_judge.specs.Forms.{IsNameOf, name_of};
 ghost use Rattle.cf_judge.specs.Texts.{has, AreFormsOf, AreSpelled, IsTextOf, AreTexts};
 ghost use Rattle.cf_judge.specs.Calls.Firsts.{first_in, IsKnownText, AreFirsts};
 ghost use Rattle.cf_pool.specs.declared.entry.PoolEntry.{PoolEntry};
@@ -82,6 +82,7 @@ fn forms_of(name: &str) -> Forms
 
 /// The name whose UTF-16 units these are. None where a surrogate stands alone.
 pub fn name_of_units(alloc: Global, units: &[u16]) -> Mem<Option<Name>>
+    ensures value { IfOk result (λ o. o ≡ name_of units.now) }
     ensures found { IfOk result (λ o. IfSome o (λ name. IsNameOf units.now name)) }
     ensures none { IfOk result (λ o. IfNone o ((name : list_of ℕ) → IsNameOf units.now name → ⊥)) }
 {

@@ -1,9 +1,10 @@
 // Class files as values (JVM Specification SE 8, 4.1): one that javac wrote, the smallest one and its truncations, and damaged
 // ones, whose first faults were worked out by hand.
 use crate::bodies::large;
+use crate::names::method;
 use crate::structures::{F_PLAIN, SMALLEST};
 use crate::tables::{bytes_of, cut, number_of, rows, three_of, two_of};
-use cf_class::{Body, ClassFile, one_class, read_class};
+use cf_class::{Body, ClassFile, Member, code_in, member_in, one_class, read_class};
 use cf_structure::ClassFault;
 use std::process::Abort;
 
@@ -70,6 +71,39 @@ fn a_class_file_is_a_value_with_its_names_and_instructions(rt: HostRuntime) {
         assert!(rt; found.as_str() == wanted, "{row}: {found}");
     }
     one_class();
+}
+
+// A name, a descriptor, and how many instructions the Code of the member has that the file of javac declares under them.
+const DECLARED: &str = "
+    run | ()V | 5
+    <init> | ()V | 3
+    K | I | no code
+    run | ()I | nothing
+    walk | ()V | nothing
+    K | ()V | nothing
+";
+
+fn code_of<R: Abort + AllocGlobal>(rt: &R, member: &Member) -> String {
+    let printed = match code_in(member.attributes.as_slice()) {
+        Some(code) => format!(in rt.alloc(); "{}", code.code.length()),
+        None => format!(in rt.alloc(); "no code"),
+    };
+    printed.expect(rt, "memory")
+}
+
+#[test]
+fn a_member_is_found_by_its_name_and_its_descriptor(rt: HostRuntime) {
+    let class = read_class(rt.alloc(), &changed(&rt, "")).expect(&rt, "a class");
+    for row in &rows(&rt, DECLARED) {
+        let (text, desc, wanted) = three_of(&rt, row);
+        let asked = method(&rt, "F", text, desc);
+        let found = member_in(class.methods.as_slice(), &asked.name, &asked.desc);
+        let field = member_in(class.fields.as_slice(), &asked.name, &asked.desc);
+        match found.or(field) {
+            Some(member) => assert!(rt; code_of(&rt, member).as_str() == wanted, "{row}"),
+            None => assert!(rt; wanted == "nothing", "{row}"),
+        }
+    }
 }
 
 // What stands at the indices of the smallest class.

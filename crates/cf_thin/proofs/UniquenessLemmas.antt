@@ -11,7 +11,8 @@ use Rattle.cf_class.specs.declared.code.Code.{Code}
 use Rattle.cf_thin.specs.declared.thin.ThinMethod.{ThinMethod}
 use Rattle.cf_thin.specs.Instr.{Places, thin_places}
 use Rattle.cf_thin.specs.ThinCode.{ThinCode}
-use Rattle.cf_thin.specs.Thin.{end_of, int_descriptor, is_entry, code_in, IsCodeOfEntry, HasThinCode, Thin}
+use Rattle.cf_class.specs.Members.{member_in, code_in}
+use Rattle.cf_thin.specs.Thin.{end_of, int_descriptor, IsCodeOfEntry, HasThinCode, Thin}
 use Rattle.jv_list.proofs.TestLemmas.{some_same}
 
 end_of-same : (a b : Bool) → end_of a ≡ end_of b → a ≡ b
@@ -54,7 +55,7 @@ pub one_code : (class : ClassFile) (entry : MethodId) (a b : Code) → IsCodeOfE
     → IsCodeOfEntry class entry b → a ≡ b
 one_code class entry a b h k =
     let same : h.method ≡ k.method =
-    some_same (find (is_entry entry) class.methods) h.method k.method h.named k.named in
+    some_same (member_in entry.name entry.desc class.methods) h.method k.method h.named k.named in
     let has : code_in k.method.attributes ≡ Some a = ap (λ (m : Member). code_in m.attributes) (sym same) ∙ h.has in
     some_same (code_in k.method.attributes) a b has k.has
 

@@ -1,15 +1,12 @@
 -- Thin methods of class files.
 use Rattle.std.specs.Prelude.{◌≡◌, ◌≢◌, ℕ, ◌≤◌, Bool, true, false, ◌&&◌, List, [], ◌∷◌, ◌++◌, length, find}
 use Rattle.std.specs.Prelude.{replicate, codes, bit_and, Option, Some, None}
-use Rattle.std.specs.Str.{bytes_eq}
 use Rattle.std.specs.List.{AllByRecursion}
 use Rattle.jv_base.specs.declared.method.MethodId.{MethodId}
 use Rattle.cf_class.specs.declared.class_file.ClassFile.{ClassFile}
 use Rattle.cf_class.specs.declared.member.Member.{Member}
-use Rattle.cf_class.specs.declared.attribute.Attribute.{Attribute}
-use Rattle.cf_class.specs.declared.attribute.Body.{Body}
-use Rattle.cf_class.specs.declared.attribute.Body.TheVariants as bodies
 use Rattle.cf_class.specs.declared.code.Code.{Code}
+use Rattle.cf_class.specs.Members.{member_in, code_in}
 use Rattle.cf_thin.specs.declared.thin.ThinMethod.{ThinMethod}
 use Rattle.cf_thin.specs.Instr.{thin_places}
 use Rattle.cf_thin.specs.ThinCode.{ThinCode}
@@ -21,32 +18,18 @@ pub record IsThinClass (class : ClassFile) (name : List ℕ) : Type 0 where
   pub interfaces : class.interfaces ≡ []
   pub initializers : AllByRecursion (λ (m : Member). m.name.name ≢ codes "<clinit>") class.methods
 
--- whether a method has the entry's name and descriptor (4.6)
-abbrev pub is_entry : MethodId → Member → Bool
-is_entry entry m = bytes_eq m.name.name entry.name && bytes_eq m.desc.name entry.desc
-
 -- static, and neither native nor abstract (4.6, table 4.6-A)
 pub record IsPlainStatic (access : ℕ) : Type 0 where
   pub is_static : bit_and access 0x0008 ≢ 0
   pub is_native : bit_and access 0x0100 ≡ 0
   pub is_abstract : bit_and access 0x0400 ≡ 0
 
--- the content of an attribute that is a Code, or else what the others have
-abbrev pub code_or : Body → Option Code → Option Code
-code_or (bodies.Code code) others = Some code
-code_or body others = others
-
--- the content of the first Code (4.7.3); the method of a class file has one at most
-abbrev pub code_in : List Attribute → Option Code
-code_in [] = None
-code_in (a ∷ attributes) = code_or a.body (code_in attributes)
-
 -- the code of the method of the entry's name and descriptor, of which a class file has one at most: the method is static and
 -- neither native nor abstract, and there is no exception handler
 pub record IsCodeOfEntry (class : ClassFile) (entry : MethodId) (code : Code) : Type 0 where
   pub class_file : IsThinClass class entry.class
   pub method : Member
-  pub named : find (is_entry entry) class.methods ≡ Some method
+  pub named : member_in entry.name entry.desc class.methods ≡ Some method
   pub access : IsPlainStatic method.flags
   pub has : code_in method.attributes ≡ Some code
   pub handlers : code.rows ≡ []

@@ -1,14 +1,14 @@
 // The thin method of a class file.
-ghost use Rattle.std.specs.Prelude.{◌≡◌, find, option_copied, codes, List as list_of, ℕ, IfOk, IfSome, IfNone, IsTrue, ◌↔◌, ◌≢◌, MatchOption};
+ghost use Rattle.std.specs.Prelude.{◌≡◌, codes, List as list_of, ℕ, IfOk, IfSome, IfNone, IsTrue, ◌↔◌, ◌≢◌, MatchOption};
 ghost use Rattle.std.specs.List.{AllByRecursion};
 ghost use Rattle.cf_class.specs.declared.code.Code.{Code as code_type};
 ghost use Rattle.cf_class.specs.declared.member.Member.{Member as member_type};
-ghost use Rattle.cf_thin.specs.Thin.{is_entry, code_in, IsThinClass, IsPlainStatic, IsCodeOfEntry, HasThinCode, Thin};
+ghost use Rattle.cf_thin.specs.Thin.{IsThinClass, IsPlainStatic, IsCodeOfEntry, HasThinCode, Thin};
 
 use crate::descriptor::int_signature;
 use crate::instr::{ThinInstr, places_of_code};
 use crate::thin_code::is_thin_code;
-use cf_class::{Attribute, Body, ClassFile, Code, Member};
+use cf_class::{ClassFile, Code, Member, code_in, member_in};
 use jv_base::{List, Mem, MethodId, Name};
 use std::alloc::Global;
 
@@ -59,37 +59,6 @@ fn is_plain_static(access: u16) -> bool
     access & STATIC != 0 && access & NATIVE == 0 && access & ABSTRACT == 0
 }
 
-fn is_entry(entry: &MethodId, method: &Member) -> bool
-    ensures { result ≡ is_entry entry.now method.now }
-{
-    method.name.name.as_str() == entry.name.as_str()
-        && method.desc.name.as_str() == entry.desc.as_str()
-}
-
-/// The method of the name and the descriptor of an entry, the first one: a class file has one at most.
-pub fn entry_method<'c>(methods: &'c [Member], entry: &MethodId) -> Option<&'c Member>
-    ensures { option_copied result ≡ find (is_entry entry.now) methods.now }
-{
-    for method in methods {
-        if is_entry(entry, method) {
-            return Some(method);
-        }
-    }
-    None
-}
-
-/// The content of the first Code: the method of a class file has one at most.
-pub fn first_code(attributes: &[Attribute]) -> Option<&Code>
-    ensures { option_copied result ≡ code_in attributes.now }
-{
-    for attribute in attributes {
-        if let Body::Code(code) = &attribute.body {
-            return Some(code);
-        }
-    }
-    None
-}
-
 /// The code of the entry's method, where it may be thin.
 fn code_of_entry<'c>(class: &'c ClassFile, entry: &MethodId) -> Option<&'c Code>
     ensures { MatchOption result ((code : code_type) → IsCodeOfEntry class.now entry.now code → ⊥) (λ code. IsCodeOfEntry class.now entry.now code.now) }
@@ -97,11 +66,11 @@ fn code_of_entry<'c>(class: &'c ClassFile, entry: &MethodId) -> Option<&'c Code>
     if !is_thin_class(class, &entry.class) {
         return None;
     }
-    let method = entry_method(class.methods.as_slice(), entry)?;
+    let method = member_in(class.methods.as_slice(), &entry.name, &entry.desc)?;
     if !is_plain_static(method.flags) {
         return None;
     }
-    let code = first_code(method.attributes.as_slice())?;
+    let code = code_in(method.attributes.as_slice())?;
     if code.rows.is_empty() {
         Some(code)
     } else {

@@ -11,7 +11,7 @@ use Rattle.cf_code.specs.Transfers.{next_pc}
 use Rattle.cf_class.specs.declared.code.Code.{Code}
 use Rattle.cf_class.specs.declared.member.Member.{Member}
 use Rattle.cf_class.specs.declared.class_file.ClassFile.{ClassFile}
-use Rattle.bd_scan.specs.Methods.{code_in, declared_in}
+use Rattle.cf_class.specs.Members.{member_in, code_in}
 use Rattle.ck_shapes.specs.declared.shape.ValueType.{ValueType}
 use Rattle.ck_shapes.specs.declared.shape.ValueType.TheVariants.{Int, Long, Reference}
 use Rattle.ck_shapes.specs.declared.effect.Effect.{Effect}
@@ -91,7 +91,7 @@ member_flow pool desc None = None
 -- the flow of a method of a class, which is known by its name and its descriptor; none where it has no code, or a float
 -- or a double in its descriptor
 abbrev pub method_flow : ClassFile → MethodId → Option Flow
-method_flow class method = member_flow class.pool.entries method.desc (declared_in class.methods method)
+method_flow class method = member_flow class.pool.entries method.desc (member_in method.name method.desc class.methods)
 
 -- these shapes meet the rules of the method
 pub record MeetsMethodRules (class : ClassFile) (method : MethodId) (shapes : GivenShapes) : Type 0 where

@@ -8,8 +8,7 @@ use crate::locals::Locals;
 use crate::shape::{Limits, Shape, ValueType};
 use crate::signature::{Signature, read_signature};
 use crate::step::steps_of;
-use bd_scan::{code_of, declared};
-use cf_class::{ClassFile, Code};
+use cf_class::{ClassFile, Code, code_in, member_in};
 use cf_code::Row;
 use cf_pool::PoolEntry;
 use jv_base::MethodId;
@@ -107,10 +106,10 @@ fn code_flow(
 pub fn method_flow(alloc: Global, class: &ClassFile, method: &MethodId) -> Mem<Option<Flow>>
     ensures { IfOk result (λ o. o ≡ method_flow class.now method.now) }
 {
-    let Some(member) = declared(class.methods.as_slice(), method) else {
+    let Some(member) = member_in(class.methods.as_slice(), &method.name, &method.desc) else {
         return Ok(None);
     };
-    let Some(code) = code_of(member.attributes.as_slice()) else {
+    let Some(code) = code_in(member.attributes.as_slice()) else {
         return Ok(None);
     };
     let Some(types) = read_signature(alloc, method.desc.as_str().as_bytes())? else {

@@ -1,80 +1,14 @@
 // The instructions of a method, each with what it does and where it goes.
-ghost use Rattle.std.specs.Prelude.{◌≡◌, ◌++◌, IfOk, OnOk, map};
-ghost use Rattle.cf_code.specs.Targets.{targets, jump_target, goes_on, jump_goes_on};
+ghost use Rattle.std.specs.Prelude.{◌≡◌, IfOk, map};
 ghost use Rattle.ck_shapes.specs.Methods.{pc_behind, next_pcs, step_of};
 
 use crate::families::instr_effect;
 use crate::flow::{Action, Step};
 use crate::shape::ValueType;
-use cf_code::{Case, Instr, Jump, Local, Object, Placed, instr_length};
+use cf_code::{Placed, goes_on, instr_length, targets};
 use cf_pool::PoolEntry;
 use jv_list::{List, Mem};
 use std::alloc::Global;
-
-/// The target of a jump.
-fn jump_target(jump: Jump) -> u16
-    ensures { result ≡ jump_target jump }
-{
-    match jump {
-        Jump::IfZero(_, target) | Jump::IfInts(_, target) => target,
-        Jump::IfReferences(_, target) | Jump::IfNull(_, target) => target,
-        Jump::Goto(target) | Jump::GotoW(target) | Jump::Jsr(target) | Jump::JsrW(target) => target,
-    }
-}
-
-/// Whether a jump can also go on to the next instruction.
-fn jump_goes_on(jump: Jump) -> bool
-    ensures { result ≡ jump_goes_on jump }
-{
-    match jump {
-        Jump::Goto(_) | Jump::GotoW(_) | Jump::Jsr(_) | Jump::JsrW(_) => false,
-        _ => true,
-    }
-}
-
-/// Whether an instruction can go on to the next one.
-fn goes_on(instr: &Instr) -> bool
-    ensures { result ≡ goes_on instr.now }
-{
-    match instr {
-        Instr::Jump(jump) => jump_goes_on(*jump),
-        Instr::Table(_) | Instr::Lookup(_) | Instr::Return(_) | Instr::Object(Object::Throw) => {
-            false
-        }
-        Instr::Local(Local::Ret(_) | Local::RetWide(_)) => false,
-        _ => true,
-    }
-}
-
-/// Puts the target of each case of a switch at the end.
-fn put_cases(out: &mut List<u16>, cases: &[Case]) -> Mem<()>
-    ensures { OnOk result (out.new ≡ out.old ++ map (λ c. c.target) cases.now) }
-{
-    for case in cases {
-        out.add(case.target)?;
-    }
-    Ok(())
-}
-
-/// The targets that an instruction names: that of a jump, or those of a switch, its default first.
-fn targets(alloc: Global, instr: &Instr) -> Mem<List<u16>>
-    ensures { IfOk result (λ found. found ≡ targets instr.now) }
-{
-    let mut found = List::new(alloc);
-    match instr {
-        Instr::Jump(jump) => found.add(jump_target(*jump))?,
-        Instr::Table(switch) => {
-            found.add(switch.default)?;
-            found.extend(switch.targets.as_slice())?;
-        }
-        Instr::Lookup(switch) => {
-            found.add(switch.default)?;
-            put_cases(&mut found, switch.cases.as_slice())?;
-        }
-        _ => {}
-    }
-    Ok(found)
-}
 
 /// The pc behind an instruction. None where it is no pc of two bytes.
 fn pc_behind(placed: &Placed) -> Option<u16>

@@ -6,7 +6,8 @@ use Rattle.jv_base.specs.Descriptor.{object, FieldType, MethodType, IsMethodType
 use Rattle.jv_base.specs.declared.method.MethodId.{MethodId}
 use Rattle.hi_tree.specs.declared.known.Up.TheVariants.{Superclasses}
 use Rattle.hi_tree.specs.Classes.{builtin_of, class_in, known_class}
-use Rattle.hi_tree.specs.Members.{member_in, has_flag}
+use Rattle.cf_class.specs.Members.{member_in}
+use Rattle.hi_tree.specs.Members.{has_flag}
 use Rattle.hi_tree.specs.Supers.{names_above_some}
 use Rattle.hi_tree.specs.Walks.{IsAbove}
 

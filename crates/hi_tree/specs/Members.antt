@@ -1,15 +1,11 @@
 -- Which members a class declares (JVM Specification SE 8, 4.5 and 4.6).
-use Rattle.std.specs.Prelude.{ℕ, ◌/◌, ◌%◌, Bool, false, List, [], ◌∷◌, Option, is_some, ◌&&◌, codes, nat_eq}
-use Rattle.std.specs.List.{find, list_any}
+use Rattle.std.specs.Prelude.{ℕ, ◌/◌, ◌%◌, Bool, false, List, [], ◌∷◌, is_some, ◌&&◌, codes, nat_eq}
+use Rattle.std.specs.List.{list_any}
 use Rattle.std.specs.Str.{bytes_eq}
-use Rattle.cf_class.specs.declared.member.Member.{Member}
+use Rattle.cf_class.specs.Members.{member_in}
 use Rattle.lib_rows.specs.declared.class.Builtin.{Builtin}
 use Rattle.lib_rows.specs.declared.class.Builtin.TheVariants.{System}
 use Rattle.hi_tree.specs.Classes.{Known, built_in, read}
-
--- the member of a name and a descriptor
-abbrev pub member_in : List ℕ → List ℕ → List Member → Option Member
-member_in name desc members = find (λ m. bytes_eq m.name.name name && bytes_eq m.desc.name desc) members
 
 -- the fields of built-in classes: `out` and `err` of java.lang.System
 abbrev pub is_builtin_field : List ℕ → List ℕ → Builtin → Bool

@@ -9,7 +9,8 @@ use Rattle.hi_tree.specs.declared.declared.Access.{Access}
 use Rattle.hi_tree.specs.declared.declared.Access.TheVariants.{Private, Package, Wide}
 use Rattle.hi_tree.specs.declared.declared.Declared.{Declared}
 use Rattle.hi_tree.specs.Classes.{Known, built_in, read}
-use Rattle.hi_tree.specs.Members.{member_in, has_flag}
+use Rattle.cf_class.specs.Members.{member_in}
+use Rattle.hi_tree.specs.Members.{has_flag}
 
 -- ACC_PRIVATE, ACC_PUBLIC, ACC_PROTECTED, or none of them
 abbrev pub access_of : ℕ → Access

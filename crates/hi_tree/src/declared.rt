@@ -5,7 +5,7 @@ ghost use Rattle.hi_tree.specs.Methods.{access_of, flags_declared, row_declared,
 ghost use Rattle.hi_tree.specs.Calls.Steps.{known_of};
 
 use crate::known::KnownClass;
-use crate::sought::member_in;
+use cf_class::member_in;
 use jv_base::Name;
 use lib_rows::LibMethod;
 

@@ -1,12 +1,12 @@
 // What a walk looks for.
-ghost use Rattle.std.specs.Prelude.{◌≡◌, option_copied};
-ghost use Rattle.hi_tree.specs.Members.{member_in, declares_field, is_builtin_field};
+ghost use Rattle.std.specs.Prelude.{◌≡◌};
+ghost use Rattle.hi_tree.specs.Members.{declares_field, is_builtin_field};
 ghost use Rattle.hi_tree.specs.Sought.{package_of, can_override, override_sought};
 ghost use Rattle.hi_tree.specs.Calls.Steps.{known_of};
 
 use crate::declared::Access;
 use crate::known::KnownClass;
-use cf_class::Member;
+use cf_class::member_in;
 use jv_base::{FieldId, MethodId, Name};
 use lib_rows::Builtin;
 
@@ -22,25 +22,6 @@ pub(crate) enum Sought<'a> {
     Method(&'a MethodId),
     /// The class of a method of this access, or one that declares a method which overrides it.
     Override(&'a MethodId, Access),
-}
-
-/// The member of a name and a descriptor.
-pub(crate) fn member_in<'a>(
-    mut members: &'a [Member],
-    name: &Name,
-    desc: &Name,
-) -> Option<&'a Member>
-    ensures { option_copied result ≡ member_in name.now desc.now members.entry.now }
-{
-    while let [member, rest @ ..] = members {
-        if member.name.name.as_str() == name.as_str()
-            && member.desc.name.as_str() == desc.as_str()
-        {
-            return Some(member);
-        }
-        members = rest;
-    }
-    None
 }
 
 fn is_builtin_field(class: Builtin, name: &str, desc: &str) -> bool

@@ -4,8 +4,8 @@ use Rattle.std.proofs.Common.{sym, subst, ◌∙◌, inl, inr, Contains, Ok, Err
 use Rattle.io_edges.specs.declared.folder.File.{File}
 use Rattle.cl_words.specs.Command.{IsCommand}
 use Rattle.cl_words.specs.declared.command.Command.{Command}
-use Rattle.jb_run.specs.declared.report.Was.{Was}
-use Rattle.jb_run.specs.declared.report.World.{World}
+use Rattle.hi_tree.specs.declared.world.Was.{Was}
+use Rattle.hi_tree.specs.declared.world.World.{World}
 use Rattle.jb_run.specs.declared.report.Load.{Load}
 use Rattle.jb_run.specs.declared.report.Refusal.{Refusal}
 use Rattle.jb_run.specs.declared.report.Answer.{Answer}

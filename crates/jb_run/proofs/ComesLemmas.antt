@@ -8,8 +8,8 @@ use Rattle.cf_bodies.specs.Passes.{IsFaultOf}
 use Rattle.cf_class.specs.Content.{IsClass}
 use Rattle.cf_class.specs.declared.class_file.ClassFile.{ClassFile}
 use Rattle.cl_words.specs.declared.command.Command.{Command}
-use Rattle.jb_run.specs.declared.report.Was.{Was}
-use Rattle.jb_run.specs.declared.report.Was.TheVariants.{Found, Absent, TooLong}
+use Rattle.hi_tree.specs.declared.world.Was.{Was}
+use Rattle.hi_tree.specs.declared.world.Was.TheVariants.{Found, Absent, TooLong}
 use Rattle.jb_run.specs.declared.report.Refusal.{Refusal}
 use Rattle.jb_run.specs.declared.report.Refusal.TheVariants.{NoEntry, Missing, Malformed, Narrow}
 use Rattle.jb_run.specs.Refusals.{IsRefusedFor, Applies}

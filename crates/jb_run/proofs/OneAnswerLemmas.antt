@@ -5,9 +5,9 @@ use Rattle.cf_class.specs.declared.class_file.ClassFile.{ClassFile}
 use Rattle.cl_words.specs.declared.command.Command.{Command}
 use Rattle.cl_words.specs.declared.command.Mode.{Mode}
 use Rattle.cl_words.specs.declared.command.Mode.TheVariants as modes
-use Rattle.jb_run.specs.declared.report.Was.{Was}
-use Rattle.jb_run.specs.declared.report.Was.TheVariants.{Found, Absent}
-use Rattle.jb_run.specs.declared.report.Asked.{Asked}
+use Rattle.hi_tree.specs.declared.world.Was.{Was}
+use Rattle.hi_tree.specs.declared.world.Was.TheVariants.{Found, Absent}
+use Rattle.hi_tree.specs.declared.world.Asked.{Asked}
 use Rattle.jb_run.specs.declared.report.Refusal.{Refusal}
 use Rattle.jb_run.specs.declared.report.Refusal.TheVariants.{NoEntry, Missing, Malformed, Narrow}
 use Rattle.jb_run.specs.Refusals.{WasAnswered, IsBuiltIn, LacksCode, LacksObject, IsMalformed, IsRefusedFor}

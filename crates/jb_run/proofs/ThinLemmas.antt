@@ -17,10 +17,10 @@ use Rattle.cl_words.specs.declared.command.Command.{Command}
 use Rattle.cl_words.specs.declared.command.Mode.{Mode}
 use Rattle.io_edges.specs.declared.folder.File.{File}
 use Rattle.io_edges.specs.Folder.{file_at, longest_file}
-use Rattle.jb_run.specs.declared.report.Was.{Was}
-use Rattle.jb_run.specs.declared.report.Was.TheVariants.{Found, TooLong}
-use Rattle.jb_run.specs.declared.report.Asked.{Asked}
-use Rattle.jb_run.specs.declared.report.World.{World}
+use Rattle.hi_tree.specs.declared.world.Was.{Was}
+use Rattle.hi_tree.specs.declared.world.Was.TheVariants.{Found, TooLong}
+use Rattle.hi_tree.specs.declared.world.Asked.{Asked}
+use Rattle.hi_tree.specs.declared.world.World.{World}
 use Rattle.jb_run.specs.declared.report.Line.{Line}
 use Rattle.jb_run.specs.declared.report.Load.{Load}
 use Rattle.jb_run.specs.declared.report.Refusal.{Refusal}

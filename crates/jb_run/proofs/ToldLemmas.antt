@@ -3,7 +3,7 @@ use Rattle.std.proofs.Common.{◌≡◌, ℕ, Bool, true, false, cond, nat_lt, L
 use Rattle.io_edges.specs.declared.folder.File.{File}
 use Rattle.io_edges.specs.declared.folder.Got.TheVariants as got
 use Rattle.io_edges.specs.Folder.{Answers, answer_of, file_at, longest_file}
-use Rattle.jb_run.specs.declared.report.Was.TheVariants.{Found, Absent, TooLong}
+use Rattle.hi_tree.specs.declared.world.Was.TheVariants.{Found, Absent, TooLong}
 use Rattle.jb_run.specs.Cause.{was_of, IsTold}
 
 found_cut : (b : Bool) (bytes file : List ℕ) → got.Found bytes ≡ cond b got.TooLong (got.Found file)

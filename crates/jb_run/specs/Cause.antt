@@ -13,9 +13,9 @@ use Rattle.cl_words.specs.declared.command.Mode.TheVariants as modes
 use Rattle.io_edges.specs.declared.folder.File.{File}
 use Rattle.io_edges.specs.Folder.{file_at, longest_file}
 use Rattle.io_edges.specs.Sink.{Holds, HoldsFront}
-use Rattle.jb_run.specs.declared.report.Was.{Was}
-use Rattle.jb_run.specs.declared.report.Was.TheVariants.{Found, Absent, TooLong}
-use Rattle.jb_run.specs.declared.report.World.{World}
+use Rattle.hi_tree.specs.declared.world.Was.{Was}
+use Rattle.hi_tree.specs.declared.world.Was.TheVariants.{Found, Absent, TooLong}
+use Rattle.hi_tree.specs.declared.world.World.{World}
 use Rattle.jb_run.specs.declared.report.Line.{Line}
 use Rattle.jb_run.specs.declared.report.Refusal.{Refusal}
 use Rattle.jb_run.specs.declared.report.Answer.{Answer}

@@ -1,5 +1,5 @@
 -- Which refusals apply to a command and what the folder answered.
-use Rattle.std.specs.Prelude.{◌≡◌, ◌≢◌, ◌⊎◌, ◌↔◌, ◌<◌, ◌+◌, ℕ, List, [], ◌∷◌, length, find, bit_and, false, Some, Contains}
+use Rattle.std.specs.Prelude.{◌≡◌, ◌≢◌, ◌⊎◌, ◌↔◌, ◌<◌, ◌+◌, ℕ, List, [], ◌∷◌, length, bit_and, false, Some, Contains}
 use Rattle.std.specs.List.{flat_map, AllByRecursion}
 use Rattle.std.specs.Ordering.{nat_cmp}
 use Rattle.std.specs.Cmp.Lexicographic.{slice_cmp}
@@ -13,16 +13,17 @@ use Rattle.cf_class.specs.declared.class_file.ClassFile.{ClassFile}
 use Rattle.cf_class.specs.declared.member.Member.{Member}
 use Rattle.cf_class.specs.declared.code.Code.{Code}
 use Rattle.cf_thin.specs.declared.thin.ThinMethod.{ThinMethod}
-use Rattle.cf_thin.specs.Thin.{is_entry, code_in, Thin}
+use Rattle.cf_class.specs.Members.{member_in, code_in}
+use Rattle.cf_thin.specs.Thin.{Thin}
 use Rattle.cl_words.specs.declared.command.Command.{Command}
 use Rattle.cl_words.specs.declared.command.Mode.{Mode}
 use Rattle.cl_words.specs.declared.command.Mode.TheVariants as modes
 use Rattle.jv_base.specs.declared.method.MethodId.{MethodId}
 use Rattle.lib_rows.specs.declared.class.Builtin.{Builtin}
 use Rattle.lib_rows.specs.Classes.{class_name}
-use Rattle.jb_run.specs.declared.report.Was.{Was}
-use Rattle.jb_run.specs.declared.report.Was.TheVariants.{Found, Absent, TooLong}
-use Rattle.jb_run.specs.declared.report.World.{World}
+use Rattle.hi_tree.specs.declared.world.Was.{Was}
+use Rattle.hi_tree.specs.declared.world.Was.TheVariants.{Found, Absent, TooLong}
+use Rattle.hi_tree.specs.declared.world.World.{World}
 use Rattle.jb_run.specs.declared.report.Refusal.{Refusal}
 use Rattle.jb_run.specs.declared.report.Refusal.TheVariants.{NoEntry, Missing, Malformed, Narrow}
 use Rattle.jb_run.specs.Answers.{refusal_text}
@@ -50,12 +51,12 @@ IsBuiltIn name = (class : Builtin) × (name ≡ class_name class)
 -- no method of the entry's name and descriptor has code (4.6)
 abbrev pub LacksCode : ClassFile → MethodId → Type 0
 LacksCode class entry =
-    (m : Member) (code : Code) → find (is_entry entry) class.methods ≡ Some m → code_in m.attributes ≡ Some code → ⊥
+    (m : Member) (code : Code) → member_in entry.name entry.desc class.methods ≡ Some m → code_in m.attributes ≡ Some code → ⊥
 
 -- the method is not static, and no object has the class itself: it is abstract or an interface (4.1, table 4.1-B)
 abbrev pub LacksObject : ClassFile → MethodId → Type 0
 LacksObject class entry =
-    (m : Member) × (find (is_entry entry) class.methods ≡ Some m) × (bit_and m.flags 0x0008 ≡ 0) × (bit_and class.flags 0x0600 ≢ 0)
+    (m : Member) × (member_in entry.name entry.desc class.methods ≡ Some m) × (bit_and m.flags 0x0008 ≡ 0) × (bit_and class.flags 0x0600 ≢ 0)
 
 -- the place of this_class: behind the pool, whose entries begin at place 10, and the flags (4.1)
 abbrev pub name_place : ClassFile → ℕ

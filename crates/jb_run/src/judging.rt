@@ -8,14 +8,15 @@ ghost use Rattle.cf_thin.specs.declared.thin.ThinMethod.{ThinMethod as thin_meth
 ghost use Rattle.jb_run.specs.Refusals as refusals;
 ghost use Rattle.jb_run.specs.Calls.Decisions as decisions;
 
-use crate::report::{Line, Refusal, Was};
+use crate::report::{Line, Refusal};
 use crate::verdicts::verdicts;
-use cf_class::{ClassFile, one_class, read_class};
+use cf_class::{ClassFile, code_in, member_in, one_class, read_class};
 use cf_judge::entry_size;
 use cf_pool::{Fault, PoolEntry, What};
 use cf_structure::{ClassFault, spelled};
-use cf_thin::{entry_method, first_code, read_thin};
+use cf_thin::read_thin;
 use cl_words::{Command, Mode};
+use hi_tree::Was;
 use jv_base::{List, Mem, MethodId, Name};
 use std::alloc::{AllocError, Global};
 
@@ -29,8 +30,8 @@ const LONGEST: u64 = 16_777_216;
 fn lacks_code(class: &ClassFile, entry: &MethodId) -> bool
     ensures { IsTrue result ↔ refusals.LacksCode class.now entry.now }
 {
-    match entry_method(class.methods.as_slice(), entry) {
-        Some(method) => first_code(method.attributes.as_slice()).is_none(),
+    match member_in(class.methods.as_slice(), &entry.name, &entry.desc) {
+        Some(method) => code_in(method.attributes.as_slice()).is_none(),
         None => true,
     }
 }
@@ -38,7 +39,7 @@ fn lacks_code(class: &ClassFile, entry: &MethodId) -> bool
 fn lacks_object(class: &ClassFile, entry: &MethodId) -> bool
     ensures { IsTrue result ↔ refusals.LacksObject class.now entry.now }
 {
-    match entry_method(class.methods.as_slice(), entry) {
+    match member_in(class.methods.as_slice(), &entry.name, &entry.desc) {
         Some(method) => method.flags & STATIC == 0 && class.flags & ABSTRACT_OR_INTERFACE != 0,
         None => false,
     }

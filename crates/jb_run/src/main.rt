@@ -23,24 +23,9 @@ mod top_call;
 mod verdicts;
 
 use crate::top_call::{run_alone, run_no_words};
-use io_edges::{DiskFolder, OutSink};
-use jv_base::Mem;
+use io_edges::{DiskFolder, OutSink, words_of};
 use std::alloc::AllocError;
-use std::env::{self, Env};
-use std::io::ErrorKind;
 use std::process::ExitCode;
-
-// The words after the program's name. Where the system does not give them as text, there is none.
-fn words_of<R: Env + AllocGlobal>(rt: &R) -> Mem<Vec<String>> {
-    match env::args(rt) {
-        Ok(mut args) => {
-            let _ = args.next();
-            args.collect(rt.alloc())
-        }
-        Err(fault) if fault.kind() == ErrorKind::OutOfMemory => Err(AllocError),
-        Err(_) => Ok(Vec::new(rt.alloc())),
-    }
-}
 
 fn main(rt: HostRuntime) -> ExitCode {
     let mut sink = OutSink::new(&rt);

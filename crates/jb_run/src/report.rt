@@ -1,32 +1,12 @@
 // What a run answers: what was asked for and what the folder said, and the refusals or the verdicts that follow.
 use cf_pool::What;
 use cl_words::Command;
+use hi_tree::World;
 use jv_base::{Goal, Input, List, MethodId, Name};
 
 /// The exit status of a run.
 #[derive(Clone, Copy, Debug, PartialEq, Eq)]
 pub struct Status(pub u8);
-
-/// What the folder answered for a class.
-#[derive(Debug, Drop)]
-pub enum Was {
-    Found(List<u8>),
-    Absent,
-    TooLong,
-}
-
-/// A class that was asked for.
-#[derive(Debug, Drop)]
-pub struct Asked {
-    pub name: Name,
-    pub was: Was,
-}
-
-/// The classes that were asked for, in that order, each name once.
-#[derive(Debug, Drop)]
-pub struct World {
-    pub entries: List<Asked>,
-}
 
 /// Why there are no verdicts.
 #[derive(Debug, Drop)]

@@ -15,9 +15,10 @@ ghost use Rattle.jb_run.specs.Calls.Decisions as decisions;
 ghost use Rattle.jb_run.specs.declared.report.Answer.TheVariants as variants;
 
 use crate::judging::{judge, unasked};
-use crate::report::{Answer, Asked, Line, Load, Ran, Refusal, Status, Was, World};
+use crate::report::{Answer, Line, Load, Ran, Refusal, Status};
 use crate::text::{NO_MEMORY, output, status_of};
 use cl_words::{Command, Mode, WordsFault, read_words};
+use hi_tree::{Asked, Was, World};
 use io_edges::{Folder, Got, Put, Sink};
 use jv_base::{List, Mem, Name};
 use lib_rows::find_class;

@@ -8,8 +8,8 @@ use Rattle.cf_thin.specs.Thin.{Thin}
 use Rattle.cl_words.specs.declared.command.Command.{Command}
 use Rattle.jv_base.specs.declared.method.Bounds.{Bounds}
 use Rattle.jv_base.specs.declared.method.MethodId.{MethodId}
-use Rattle.jb_run.specs.declared.report.Was.{Was}
-use Rattle.jb_run.specs.declared.report.World.{World}
+use Rattle.hi_tree.specs.declared.world.Was.{Was}
+use Rattle.hi_tree.specs.declared.world.World.{World}
 use Rattle.jb_run.specs.declared.report.Line.{Line}
 use Rattle.jb_run.specs.declared.report.Refusal.{Refusal}
 use Rattle.jb_run.specs.declared.report.Refusal.TheVariants.{NoEntry, Missing, Malformed, Narrow}

@@ -1,6 +1,6 @@
 use Rattle.std.proofs.Common.{List, ℕ, sym, subst, Err}
-use Rattle.jb_run.specs.declared.report.Was.{Was}
-use Rattle.jb_run.specs.declared.report.Was.TheVariants.{Absent, TooLong}
+use Rattle.hi_tree.specs.declared.world.Was.{Was}
+use Rattle.hi_tree.specs.declared.world.Was.TheVariants.{Absent, TooLong}
 use Rattle.jb_run.specs.declared.report.Refusal.TheVariants.{Missing, Malformed}
 use Rattle.cf_pool.specs.declared.fault.What.TheVariants as words
 use Rattle.jb_run.specs.Calls.Decisions.{world_of, ComesTo}

@@ -5,7 +5,7 @@ use Rattle.cf_pool.specs.Laws.{IsBytes}
 use Rattle.cf_structure.specs.ClassFile.{Names}
 use Rattle.cf_structure.specs.declared.fault.ClassFault.{ClassFault}
 use Rattle.cf_bodies.specs.Passes.{IsFaultOf}
-use Rattle.jb_run.specs.declared.report.Was.TheVariants.{Found}
+use Rattle.hi_tree.specs.declared.world.Was.TheVariants.{Found}
 use Rattle.jb_run.specs.declared.report.Refusal.TheVariants.{Malformed}
 use Rattle.jb_run.specs.Calls.Decisions.{world_of, ClassComesTo, ComesTo}
 use Rattle.jb_run.proofs.ComesLemmas.{fault_comes}

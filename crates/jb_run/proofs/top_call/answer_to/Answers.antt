@@ -1,5 +1,5 @@
 use Rattle.std.proofs.Common.{List, sym, subst}
-use Rattle.jb_run.specs.declared.report.Asked.{Asked}
+use Rattle.hi_tree.specs.declared.world.Asked.{Asked}
 use Rattle.jb_run.specs.Calls.Decisions.{ComesTo}
 use Rattle.jb_run.proofs.top_call.answer_to.Goals as goal
 

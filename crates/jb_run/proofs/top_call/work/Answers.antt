@@ -1,7 +1,7 @@
 use Rattle.std.proofs.Common.{◌≡◌, ℕ, List, refl, subst}
 use Rattle.std.proofs.lemmas.Result.{IfOk-weaker}
-use Rattle.jb_run.specs.declared.report.Was.{Was}
-use Rattle.jb_run.specs.declared.report.Was.TheVariants.{Found, Absent, TooLong}
+use Rattle.hi_tree.specs.declared.world.Was.{Was}
+use Rattle.hi_tree.specs.declared.world.Was.TheVariants.{Found, Absent, TooLong}
 use Rattle.jb_run.specs.Path.{class_path}
 use Rattle.jb_run.specs.Cause.{IsTold}
 use Rattle.jb_run.specs.Calls.Decisions.{world_of, no_world, Answers, IsOutcome}
