@@ -21,7 +21,7 @@ use Rattle.hi_tree.specs.Subtypes.{supertypes}
 use Rattle.hi_tree.specs.Fields.{IsField}
 use Rattle.hi_tree.specs.Resolution.{IsResolved}
 use Rattle.hi_tree.specs.Selection.{IsSelected}
-use Rattle.bd_core.specs.Special.{IsSpecial}
+use Rattle.hi_tree.specs.Special.{IsSpecial}
 use Rattle.bd_core.specs.declared.member.Member.{Member}
 use Rattle.bd_core.specs.declared.member.Member.TheVariants.{Known, Method, Made, Called, Initialised, Under}
 use Rattle.bd_core.specs.declared.job.Job.{Job}

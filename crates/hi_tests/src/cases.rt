@@ -302,4 +302,67 @@ pub(crate) const CASES: &str = "
     field C.f | not loaded Gone
     resolve class A.m | not loaded Lost | circular
     resolve class C.m | not loaded Gone
+
+    world special calls
+    interface J | java/lang/Object | | public.m public.q private.p
+    interface K | java/lang/Object | J |
+    class A | java/lang/Object | | public.m private.p public.<init>()V public.n
+    class B | A | J | public.m private.p public.<init>()V
+    class C | B | K | public.m public.<init>()V
+    class D | C | J | public.r
+    class X | java/lang/Object | | public.m
+    special B class B.p | B
+    special B class B.<init>()V | B
+    special B class A.<init>()V | A
+    special C class A.<init>()V | A
+    special C class C.m | C
+    special C class B.m | B
+    special C class A.m | B
+    special D class A.m | C
+    special D class D.m | C
+    special D class D.r | D
+    special D class B.n | A
+    special D class B.q | J
+    special D class java/lang/Object.equals(Ljava/lang/Object;)Z | java/lang/Object
+    special D interface J.q | J
+    special D interface J.m | J
+    special C interface K.q | J
+    special C interface K.m | J
+    special K interface J.m | J
+    special D class D.x | none
+    special D interface J.x | none
+    special B class X.m | X | error
+    special X class B.m | B | error
+
+    world a superclass hides the method that is named
+    class A | java/lang/Object | | public.m
+    interface J | java/lang/Object | | public.m
+    abstract B | A | | public.abstract.m
+    class C | B | J |
+    class D | C | | public.m
+    special C class A.m | B | none
+    special D class A.m | B | none
+    special D class B.m | B | none
+    special D class C.m | B | none
+
+    world special calls where classes are missing
+    class A | java/lang/Object | | public.m private.p
+    class B | Lost | | public.m private.p public.<init>()V
+    class C | B | | public.m
+    special C class A.m | not loaded Lost
+    special C class A.p | A | not loaded Lost
+    special C class B.m | B | not loaded Lost
+    special C class B.q | not loaded Lost
+    special B class Lost.m | not loaded Lost
+    special Gone class A.m | not loaded Gone
+    special A class Gone.m | not loaded Gone
+    special B class B.m | B | not loaded Lost
+
+    world special calls where a class is its own superclass
+    class A | B | | public.m
+    class B | A | |
+    class X | java/lang/Object | | public.m
+    special A class X.m | circular
+    special A class B.m | A | circular
+    special A class A.m | A | circular
 ";

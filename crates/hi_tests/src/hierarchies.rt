@@ -1,7 +1,8 @@
 // Questions to hierarchies, against the answers of a Java virtual machine.
 use crate::cases::CASES;
+use crate::names::NAMES;
 use crate::worlds::{cell, name_of, put_row, reference};
-use hi_tree::{Classes, TreeFault};
+use hi_tree::{Classes, TreeFault, Up, has_flag};
 use jv_base::{FieldId, MethodId, Ty, read_field_type};
 use std::process::Abort;
 
@@ -59,6 +60,46 @@ fn selected<R: Abort + AllocGlobal>(rt: &R, classes: &Classes, question: &str) -
     )
 }
 
+fn special<R: Abort + AllocGlobal>(rt: &R, classes: &Classes, question: &str) -> String {
+    let (caller, rest) = question.split_once(' ').expect(rt, "a caller");
+    let (kind, method) = rest.split_once(' ').expect(rt, "a kind and a method");
+    let at = reference(rt, method);
+    let caller = name_of(rt, caller);
+    answer_text(
+        rt,
+        &at,
+        classes.special(rt.alloc(), &caller, &at, kind == "interface"),
+    )
+}
+
+/// The names directly above a class, with a space between two.
+fn above<R: Abort + AllocGlobal>(rt: &R, classes: &Classes, class: &str, up: Up) -> String {
+    let names = classes
+        .names_above(rt.alloc(), &name_of(rt, class), up)
+        .expect(rt, "memory");
+    let mut text = String::new(rt.alloc());
+    for name in names.iter() {
+        if !text.is_empty() {
+            text.push(' ').expect(rt, "memory");
+        }
+        text.push_str(name.as_str()).expect(rt, "memory");
+    }
+    text
+}
+
+/// What the class file of a name says that it is, if one alone makes the class known.
+fn read<R: Abort + AllocGlobal>(rt: &R, classes: &Classes, class: &str) -> String {
+    let name = name_of(rt, class);
+    match classes.read(&name) {
+        Some(file) => {
+            assert!(rt; file.this_class.name == name, "the class of the name");
+            let is_interface = has_flag(file.flags, 0x0200);
+            copied(rt, if is_interface { "interface" } else { "class" })
+        }
+        None => copied(rt, "none"),
+    }
+}
+
 fn field<R: Abort + AllocGlobal>(rt: &R, classes: &Classes, question: &str) -> String {
     let (class, name) = question.split_once('.').expect(rt, "a class and a field");
     let (name, desc) = name.split_once(':').unwrap_or((name, "I"));
@@ -101,6 +142,10 @@ fn answer<R: Abort + AllocGlobal>(rt: &R, classes: &Classes, question: &str) -> 
         "resolve" => resolved(rt, classes, rest),
         "select" => selected(rt, classes, rest),
         "field" => field(rt, classes, rest),
+        "special" => special(rt, classes, rest),
+        "above" => above(rt, classes, rest, Up::Supertypes),
+        "super" => above(rt, classes, rest, Up::Superclasses),
+        "read" => read(rt, classes, rest),
         _ => subtype(rt, classes, rest),
     }
 }
@@ -120,18 +165,18 @@ fn is_among(told: &str, cell: &str) -> bool {
     false
 }
 
-#[test]
-fn the_answers_are_those_of_a_virtual_machine(rt: HostRuntime) {
+/// Asks the questions of a table.
+pub(crate) fn compare<R: Abort + AllocGlobal>(rt: &R, table: &str) {
     let mut classes = Classes::new(rt.alloc());
-    for line in CASES.lines() {
+    for line in table.lines() {
         let row = line.trim();
         if row.starts_with("world ") {
             classes = Classes::new(rt.alloc());
         } else if is_class_row(row) {
-            put_row(&rt, &mut classes, row);
+            put_row(rt, &mut classes, row);
         } else if !row.is_empty() {
-            let (question, expected) = cell(&rt, row);
-            let told = answer(&rt, &classes, question);
+            let (question, expected) = cell(rt, row);
+            let told = answer(rt, &classes, question);
             assert!(rt;
                 is_among(told.as_str(), expected),
                 "{row}: {}",
@@ -139,4 +184,14 @@ fn the_answers_are_those_of_a_virtual_machine(rt: HostRuntime) {
             );
         }
     }
+}
+
+#[test]
+fn the_answers_are_those_of_a_virtual_machine(rt: HostRuntime) {
+    compare(&rt, CASES);
+}
+
+#[test]
+fn names_are_known_and_stand_above(rt: HostRuntime) {
+    compare(&rt, NAMES);
 }

@@ -6,6 +6,8 @@ mod cases;
 #[cfg(test)]
 mod hierarchies;
 #[cfg(test)]
+mod names;
+#[cfg(test)]
 mod sizes;
 #[cfg(test)]
 mod worlds;

@@ -10,7 +10,7 @@ use Rattle.lib_rows.specs.declared.class.Builtin.TheVariants.{Object}
 use Rattle.lib_rows.specs.Classes.{class_name}
 use Rattle.lib_rows.specs.Classes as builtin
 use Rattle.cf_class.specs.declared.class_file.ClassFile.{ClassFile}
-use Rattle.hi_tree.specs.Classes.{built_in, builtin_of, class_in, known_class, first_known}
+use Rattle.hi_tree.specs.Classes.{built_in, builtin_of, class_in, known_class, first_known, file_of, read_in}
 
 -- each class is the first of its name
 pub named_first : (class : Builtin) → builtin_of (class_name class) ≡ Some class
@@ -59,3 +59,14 @@ module _ (classes : List ClassFile) where
       → known_class classes name ≡ Some (built_in class)
   unfolding known_class
   known_named name b e = ap (λ (o : Option Builtin). first_known o (class_in classes name)) e
+
+  -- a class file stands for its name where no built-in class has that
+  pub read_plain : (name : List ℕ) → builtin_of name ≡ None → read_in classes name ≡ class_in classes name
+  read_plain name none = by (class_in classes name) refl
+    where
+      by : (o : Option ClassFile) → class_in classes name ≡ o → read_in classes name ≡ class_in classes name
+      by None e = ap file_of (known_from name None None none e) ∙ sym e
+      by (Some c) e = ap file_of (known_from name None (Some c) none e) ∙ sym e
+
+  pub read_builtin : (name : List ℕ) (class : Builtin) → builtin_of name ≡ Some class → read_in classes name ≡ None
+  read_builtin name class e = ap file_of (known_named name class e)

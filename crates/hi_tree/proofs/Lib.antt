@@ -18,3 +18,11 @@ pub mod ChoosingState
 pub mod ChooseLemmas
 pub mod DoneLemmas
 pub mod EndLemmas
+pub mod GrowthLemmas
+pub mod OfferGrowthLemmas
+pub mod AnswerGrowthLemmas
+pub mod InputGrowthLemmas
+pub mod FaultLemmas
+pub mod SelectFaultLemmas
+pub mod SpecialLemmas
+pub mod SpecialCallLemmas

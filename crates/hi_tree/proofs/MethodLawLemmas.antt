@@ -32,14 +32,14 @@ use Rattle.hi_tree.proofs.OfferLemmas.{or_cases, or_first}
 use Rattle.hi_tree.proofs.WalkLemmas.{one_stop, clean_no_stop, no_path}
 use Rattle.hi_tree.proofs.SubtypeLemmas.{found_above}
 
-same_method : (a b : MethodId) → a.class ≡ b.class → a.name ≡ b.name → a.desc ≡ b.desc → a ≡ b
+pub same_method : (a b : MethodId) → a.class ≡ b.class → a.name ≡ b.name → a.desc ≡ b.desc → a ≡ b
 same_method a b class name desc = λ i. record { class = class i; name = name i; desc = desc i }
 
 stop_name : Stop → List ℕ
 stop_name (found name) = name
 stop_name other = []
 
-one_found : (w : Climb) (name a b : List ℕ) → Stops w name (found a) → Stops w name (found b) → a ≡ b
+pub one_found : (w : Climb) (name a b : List ℕ) → Stops w name (found a) → Stops w name (found b) → a ≡ b
 unfolding stop_name
 one_found w name a b s t = ap stop_name (one_stop w (no_path w name) s t)
 
@@ -80,8 +80,8 @@ module _ (classes : List ClassFile) (interface : Bool) (at : MethodId) where
       same_method a b (one_declared a.class b.class is.declared at_b.declared) (is.name ∙ sym at_b.name)
       (is.desc ∙ sym at_b.desc)
 
--- a method that is neither private nor not_st
-virtual_parts : (d : Declared) → is_virtual d ≡ true → (d.is_static ≡ false) × (d.access ≡ Private → ⊥)
+-- a method that is neither private nor static
+pub virtual_parts : (d : Declared) → is_virtual d ≡ true → (d.is_static ≡ false) × (d.access ≡ Private → ⊥)
 virtual_parts d is = by d.access d.is_static is
   where
     by : (a : Access) (s : Bool) → is_virtual_at a s ≡ true → (s ≡ false) × (a ≡ Private → ⊥)
@@ -119,7 +119,7 @@ module _ (classes : List ClassFile) (m : MethodId) where
         own = λ is_private. absurd ((virtual_parts d is).1 is_private);
       }
 
-  -- what the walk finds is declared, and neither private nor not_st
+  -- what the walk finds is declared, and neither private nor static
   overriding : (d : Declared) (c : List ℕ) → IsDeclared classes m d → is_virtual d ≡ true
       → sought_some (override_sought m d.access c) (known_class classes c) ≡ true → is_virtual_some (at_class c) ≡ true
   overriding d c decl is sought = by (known_class classes c) refl sought

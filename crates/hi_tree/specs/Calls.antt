@@ -4,3 +4,4 @@ pub mod Steps
 pub mod Walking
 pub mod Choosing
 pub mod Shapes
+pub mod Specials

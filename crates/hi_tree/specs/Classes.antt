@@ -28,3 +28,12 @@ first_known None None = None
 -- a built-in class stands before one that was read under its name
 unfoldable pub known_class : List ClassFile → List ℕ → Option Known
 known_class classes name = first_known (builtin_of name) (class_in classes name)
+
+-- the class file of what is known, if a class file alone makes it known
+abbrev pub file_of : Option Known → Option ClassFile
+file_of (Some (read c)) = Some c
+file_of other = None
+
+-- the class file that was read under a name, where the class is not built in
+abbrev pub read_in : List ClassFile → List ℕ → Option ClassFile
+read_in classes name = file_of (known_class classes name)

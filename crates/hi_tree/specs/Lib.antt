@@ -10,7 +10,9 @@ pub mod Subtypes
 pub mod Superinterfaces
 pub mod Resolution
 pub mod Selection
+pub mod Special
 pub mod Worlds
 pub mod Inputs
+pub mod Growth
 pub mod Laws
 pub mod Calls

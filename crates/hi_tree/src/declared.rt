@@ -25,7 +25,8 @@ pub struct Declared {
     pub is_abstract: bool,
 }
 
-fn has_flag(flags: u16, flag: u16) -> bool
+/// Whether a flag, one bit, is set.
+pub fn has_flag(flags: u16, flag: u16) -> bool
     requires { 0 < flag }
     ensures { result ≡ has_flag flags flag }
 {

@@ -1,6 +1,8 @@
 // Laws of the definitions, each the contract of a function that does nothing.
 ghost use Rattle.hi_tree.specs.Laws.{OneStop, CleanStopsNowhere, FoundIsAbove, CleanIsWhole, SubtypeReflexive};
 ghost use Rattle.hi_tree.specs.Laws.{SubtypeTransitive, OneResolved, OneSelected, SelectedIsCallable, SelectsItself};
+ghost use Rattle.hi_tree.specs.Laws.{OneField, OneSpecial, ResolveFaults, FieldFaults, SelectFaults, SpecialFaults};
+ghost use Rattle.hi_tree.specs.Laws.{GrowthKeeps, AddedGrows};
 
 /// A walk stops at one place, or nowhere; what it finds is above where it began.
 pub fn walk_laws()
@@ -16,10 +18,26 @@ pub fn subtype_laws()
     ensures transitive { SubtypeTransitive }
 {}
 
-/// What a reference means, and what a call selects.
+/// What a reference means, what a call selects, and what an invokespecial calls.
 pub fn method_laws()
     ensures resolved { OneResolved }
     ensures selected { OneSelected }
     ensures callable { SelectedIsCallable }
     ensures itself { SelectsItself }
+    ensures field { OneField }
+    ensures special { OneSpecial }
+{}
+
+/// What has a target has no fault but want of memory, and what has none has one other fault at most.
+pub fn fault_laws()
+    ensures resolve { ResolveFaults }
+    ensures field { FieldFaults }
+    ensures select { SelectFaults }
+    ensures special { SpecialFaults }
+{}
+
+/// What references mean stays as a table grows.
+pub fn growth_laws()
+    ensures keeps { GrowthKeeps }
+    ensures added { AddedGrows }
 {}

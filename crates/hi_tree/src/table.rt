@@ -73,7 +73,7 @@ fn put(
 }
 
 impl Classes {
-    ghost use Rattle.hi_tree.specs.Classes.{class_in, known_class};
+    ghost use Rattle.hi_tree.specs.Classes.{class_in, known_class, read_in};
     ghost use Rattle.hi_tree.specs.Calls.Steps.{known_of, above_name};
 
     /// A table without classes. It takes no memory.
@@ -108,6 +108,16 @@ impl Classes {
     {
         let place = *self.index.get(name)?;
         Some(self.classes.at(place))
+    }
+
+    /// The class that was put in under a name, if no built-in class has the name.
+    pub fn read(&self, name: &Name) -> Option<&ClassFile>
+        ensures { option_copied result ≡ read_in self.now name.now }
+    {
+        match find_class(name) {
+            Some(_) => None,
+            None => self.read_class(name.as_str()),
+        }
     }
 
     /// The class of a name, if it is known.
