@@ -1,1 +1,12 @@
 pub mod LeastLemmas
+pub mod AddsLemmas
+pub mod ToldLemmas
+pub mod GiftLemmas
+pub mod FactLemmas
+pub mod ChoiceLemmas
+pub mod GroupLemmas
+pub mod FollowLemmas
+pub mod StepLemmas
+pub mod ClosingLemmas
+pub mod SameLemmas
+pub mod TakeLemmas

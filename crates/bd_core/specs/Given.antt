@@ -1,11 +1,11 @@
 -- What the rules are asked of: the facts that were given of classes and of methods, and what the rules read from them.
-use Rattle.std.specs.Prelude.{◌≡◌, ℕ, ◌≤◌, Bool, true, false, List, [], ◌∷◌, Option, Some, None, Contains, slice_get, codes, ◌⊎◌}
+use Rattle.std.specs.Prelude.{◌≡◌, ℕ, ◌≤◌, Bool, true, false, List, [], ◌∷◌, Option, Some, None, is_some, Contains}
+use Rattle.std.specs.Prelude.{slice_get, codes, ◌⊎◌}
 use Rattle.jv_base.specs.declared.method.MethodId.{MethodId}
 use Rattle.jv_base.specs.declared.method.FieldId.{FieldId}
 use Rattle.jv_base.specs.Descriptor.{object, FieldType, MethodType, IsMethodType, method_text}
 use Rattle.cf_pool.specs.declared.entry.PoolEntry.{PoolEntry}
 use Rattle.cf_pool.specs.declared.entry.PoolEntry.TheVariants.{Str}
-use Rattle.cf_class.specs.declared.code.Code.{Code}
 use Rattle.cf_class.specs.declared.attribute.Attribute.{Attribute}
 use Rattle.cf_class.specs.declared.attribute.Body.{Body}
 use Rattle.cf_class.specs.declared.attribute.Body.TheVariants as bodies
@@ -106,5 +106,4 @@ pub record HasInitialiser (classes : List ClassFile) (name : List ℕ) : Type 0 
   pub member : Member
   pub declared : member_in (initialiser name).name (initialiser name).desc class.methods ≡ Some member
   pub static : has_flag member.flags static_flag ≡ true
-  pub code : Code
-  pub body : code_in member.attributes ≡ Some code
+  pub code : is_some (code_in member.attributes) ≡ true

@@ -17,8 +17,12 @@ gives_text rows.StringOfBoolean = true
 gives_text rows.BuilderToString = true
 gives_text other = false
 
--- the exceptions that a call of it may raise, where its receiver is not null
+-- the exceptions that a call of it may raise, where its receiver is not null: for a null argument, for an index
+abbrev pub null_exceptions : LibMethod → List Builtin
+null_exceptions row = if is_some (null_argument row) then NullPointerException ∷ [] else []
+
+abbrev pub index_exceptions : LibMethod → List Builtin
+index_exceptions row = if has_index row then StringIndexOutOfBoundsException ∷ [] else []
+
 abbrev pub row_exceptions : LibMethod → List Builtin
-row_exceptions row =
-    (if is_some (null_argument row) then NullPointerException ∷ [] else [])
-    ++ (if has_index row then StringIndexOutOfBoundsException ∷ [] else [])
+row_exceptions row = null_exceptions row ++ index_exceptions row

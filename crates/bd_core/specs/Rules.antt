@@ -71,7 +71,8 @@ pub data FromFact (g : Given) (m : MethodId) : Fact → Member → Type 0 where
   special_call : (pc : ℕ) (at target : MethodId) (interface : Bool) → IsSpecial g.classes m.class interface at target
       → FromFact g m (Special pc at interface) (Method target)
   -- another call selects its method
-  virtual_call : (pc : ℕ) (at : MethodId) (interface : Bool) → FromFact g m (Virtual pc at interface) (Called at interface)
+  virtual_call : (pc : ℕ) (at : MethodId) (interface : Bool)
+      → FromFact g m (Virtual pc at interface) (Called at interface)
   -- a class may be initialised by `new`, by a static call, by the use of a static field
   initialises : (class : List ℕ) → FromFact g m (Init class) (Initialised class)
   static_initialises : (pc : ℕ) (at target : MethodId) (interface : Bool) → IsResolved g.classes interface at target

@@ -2,7 +2,7 @@
 use jv_base::{MethodId, Name};
 
 /// What the loading rules speak of.
-#[derive(Debug, Drop, PartialEq, Eq)]
+#[derive(Debug, Drop, PartialEq, Eq, Hash)]
 pub enum Member {
     /// The class of this name is known: it is in K.
     Known(Name),

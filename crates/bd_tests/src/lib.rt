@@ -1,4 +1,4 @@
-//! Tests of the public calls of the loading layer: the facts of methods. What they expect comes from the Java Virtual
+//! Tests of the public calls of the loading layer: the facts of methods, and the least sets. What they expect comes from the Java Virtual
 //! Machine Specification and from javac and javap.
 #![tactic(auto)]
 
@@ -8,3 +8,5 @@ mod cases;
 mod facts;
 #[cfg(test)]
 mod tables;
+#[cfg(test)]
+mod worlds;

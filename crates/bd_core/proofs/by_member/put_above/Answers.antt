@@ -1,0 +1,12 @@
+-- The names are those above.
+use Rattle.std.proofs.Common.{rules}
+use Rattle.std.proofs.lemmas.Result.{on_ok_weaker}
+use Rattle.bd_core.specs.Loads.{given}
+use Rattle.bd_core.proofs.GiftLemmas.{aboves}
+use Rattle.bd_core.proofs.by_member.put_above.Goals as goal
+
+pub returns : goal.returns
+returns c =
+    on_ok_weaker c.put_under.result
+    (aboves (given c.args.loaded.now) _ _ c.args.class.now c.args.above.now c.in_ok-names.names (search rules))
+    c.put_under.ensures
