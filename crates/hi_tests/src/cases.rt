@@ -345,6 +345,17 @@ pub(crate) const CASES: &str = "
     special D class B.m | B | none
     special D class C.m | B | none
 
+    world static and private methods where a special call is looked up
+    class A | java/lang/Object | | public.m
+    class B | A | | public.static.m
+    class C | B | |
+    class D | A | | private.m
+    class E | D | |
+    special C class A.m | B | A
+    special C class B.m | B | error
+    special E class A.m | D
+    special E class D.m | D
+
     world special calls where classes are missing
     class A | java/lang/Object | | public.m private.p
     class B | Lost | | public.m private.p public.<init>()V

@@ -38,6 +38,6 @@ pub fn fault_laws()
 
 /// What references mean stays as a table grows.
 pub fn growth_laws()
-    ensures keeps { GrowthKeeps }
+    ensures meanings { GrowthKeeps }
     ensures added { AddedGrows }
 {}
