@@ -1,0 +1,8 @@
+use Rattle.std.proofs.Common.{FitsSigned, rules}
+use Rattle.std.specs.Int.{w32}
+use Rattle.vm_frame.proofs.WrapLemmas.{shifted_left_32}
+use Rattle.vm_frame.proofs.shift.shifted_int.Goals as goal
+
+pub returns-in-Left : goal.returns-in-Left
+returns-in-Left c = let fits : FitsSigned w32 c.args.a = search rules in
+    rw c.in-Left.is (shifted_left_32 c.args.a c.args.distance fits c.requires)

@@ -1,0 +1,10 @@
+pub mod Operands
+pub mod Effects
+pub mod Constants
+pub mod Locals
+pub mod Stacks
+pub mod Numbers
+pub mod Jumps
+pub mod Steps
+pub mod Calls
+pub mod Laws
