@@ -1,6 +1,8 @@
--- What holds of the effect of each instruction: it finds what it speaks of, raises a kind of the instruction, and leads to
+-- What holds of the effect of each instruction: it finds what it speaks of, raises a kind of the instruction, and
+-- leads to
 -- one of its targets, or on to the next instruction.
-use Rattle.std.proofs.Common.{◌≡◌, ℕ, zero, suc, ◌+◌, ◌-◌, ◌<◌, ◌≤◌, ℤ, pos, negsuc, ◌-ℤ◌, Bool, true, false, if◌then◌else◌}
+use Rattle.std.proofs.Common.{◌≡◌, ℕ, zero, suc, ◌+◌, ◌-◌, ◌<◌, ◌≤◌, ℤ, pos, negsuc, ◌-ℤ◌, Bool, true, false}
+use Rattle.std.proofs.Common.{if◌then◌else◌}
 use Rattle.std.proofs.Common.{List, [], ◌∷◌, length, map, Contains, Option, Some, None, refl, subst, arith}
 use Rattle.std.specs.List.{find}
 use Rattle.std.specs.Option.{option_map}
@@ -32,12 +34,15 @@ use Rattle.vm_world.specs.declared.frame.Frame.{Frame}
 use Rattle.vm_frame.specs.declared.operand.Operands.{Operands}
 use Rattle.vm_frame.specs.declared.operand.Operands.TheVariants.{NoOperand, OneOperand, TwoOperands}
 use Rattle.vm_frame.specs.declared.effect.FrameEffect.{FrameEffect}
-use Rattle.vm_frame.specs.declared.effect.FrameEffect.TheVariants.{Gives, Drops, Copies, Swaps, Stores, Changes, Jumps, Raises, Sticks, Exceeds}
-use Rattle.vm_frame.specs.Operands.{without, top, second, int_in, reference_in, values, one_word, two_words, operands_of, two_ints, two_references}
+use Rattle.vm_frame.specs.declared.effect.FrameEffect.TheVariants.{Gives, Drops, Copies, Swaps, Stores, Changes}
+use Rattle.vm_frame.specs.declared.effect.FrameEffect.TheVariants.{Jumps, Raises, Sticks, Exceeds}
+use Rattle.vm_frame.specs.Operands.{without, top, second, int_in, reference_in, values, one_word, two_words}
+use Rattle.vm_frame.specs.Operands.{operands_of, two_ints, two_references}
 use Rattle.vm_frame.specs.Constants.{constant_effect}
 use Rattle.vm_frame.specs.Locals.{local_at, of_type, index_of, load_effect, store_effect, iinc_effect, local_effect}
 use Rattle.vm_frame.specs.Stacks.{dropped, copied, copied_under, copies, swaps, stack_effect}
-use Rattle.vm_frame.specs.Jumps.{branch, if_zero, if_ints, if_references, if_null, jump_effect, target_or, target_at, case_target}
+use Rattle.vm_frame.specs.Jumps.{branch, if_zero, if_ints, if_references, if_null, jump_effect, target_or, target_at}
+use Rattle.vm_frame.specs.Jumps.{case_target}
 use Rattle.vm_frame.specs.Jumps.{table_target, lookup_target, switch_given, table_effect, lookup_effect}
 use Rattle.vm_frame.proofs.StoreLemmas.{in_list}
 
@@ -54,7 +59,8 @@ Meets instr (Raises kind) frame = raises instr kind ≡ true
 Meets instr Sticks frame = Unit {0}
 Meets instr Exceeds frame = Unit {0}
 
-pub meets_if : (b : Bool) (instr : Instr) (e f : FrameEffect) (frame : Frame) → Meets instr e frame → Meets instr f frame
+pub meets_if : (b : Bool) (instr : Instr) (e f : FrameEffect) (frame : Frame) → Meets instr e frame
+    → Meets instr f frame
     → Meets instr (if b then e else f) frame
 meets_if b instr e f frame first last =
     elim b as (λ t. Meets instr (if t then e else f) frame) [ true ↦ first | false ↦ last ]
@@ -75,7 +81,8 @@ constant_meets (constants.Ldc2W n) frame = tt
 
 -- ---- locals
 
-load_meets : (instr : Instr) (o : Option Value) (frame : Frame) → goes_on instr ≡ true → Meets instr (load_effect o) frame
+load_meets : (instr : Instr) (o : Option Value) (frame : Frame) → goes_on instr ≡ true
+    → Meets instr (load_effect o) frame
 load_meets instr None frame on = tt
 load_meets instr (Some v) frame on = on
 
@@ -93,7 +100,8 @@ iinc_meets instr index by (Some (Ref r)) frame on is = tt
 
 pub local_meets : (l : Local) (frame : Frame) → Meets (instrs.Local l) (local_effect l frame.locals frame.stack) frame
 local_meets (locals.Load word index) frame =
-    load_meets (instrs.Local (locals.Load word index)) (of_type word (local_at frame.locals (index_of index))) frame refl
+    load_meets (instrs.Local (locals.Load word index)) (of_type word (local_at frame.locals (index_of index))) frame
+    refl
 local_meets (locals.Store word index) frame =
     store_meets (instrs.Local (locals.Store word index)) (index_of index) (of_type word (top frame.stack)) frame refl
 local_meets (locals.Iinc index by) frame =
@@ -133,7 +141,8 @@ two_within (x ∷ y ∷ ys) o e = omega (arith, at_most_two o)
 
 -- the values that have so many words are on the stack
 pub operands_within : (n : ℕ) (s : List Value) (o : Operands) → operands_of n s ≡ Some o → length (values o) ≤ length s
-operands_within zero s o e = subst (λ (p : Operands). length (values p) ≤ length s) (same_Some NoOperand o e) (omega arith)
+operands_within zero s o e = subst (λ (p : Operands). length (values p) ≤ length s) (same_Some NoOperand o e)
+    (omega arith)
 operands_within (suc zero) s o e = one_within s o e
 operands_within (suc (suc n)) s o e = two_within s o e
 
@@ -185,7 +194,8 @@ stack_meets moves.Swap frame = swaps_meets moves.Swap frame (operands_of 2 frame
 
 module _ (j : Jump) (frame : Frame) where
   -- a jump that can go on goes to its target or on
-  branch_meets : (taken target : ℕ) (test : Bool) → goes_on (instrs.Jump j) ≡ true → Contains (targets (instrs.Jump j)) target
+  branch_meets : (taken target : ℕ) (test : Bool) → goes_on (instrs.Jump j) ≡ true
+      → Contains (targets (instrs.Jump j)) target
       → Meets (instrs.Jump j) (branch taken target test) frame
   branch_meets taken target true on named = named
   branch_meets taken target false on named = on
@@ -201,7 +211,8 @@ zero_meets c target frame (Some a) = branch_meets (jumps.IfZero c target) frame 
 ints_meet : (c : Condition) (target : ℕ) (frame : Frame) (o : Option (ℤ × ℤ))
     → Meets (instrs.Jump (jumps.IfInts c target)) (if_ints c target o) frame
 ints_meet c target frame None = tt
-ints_meet c target frame (Some (a, b)) = branch_meets (jumps.IfInts c target) frame 2 target _ refl (first_named target [])
+ints_meet c target frame (Some (a, b)) = branch_meets (jumps.IfInts c target) frame 2 target _ refl
+    (first_named target [])
 
 references_meet : (e : Equality) (target : ℕ) (frame : Frame) (o : Option (Option ℕ × Option ℕ))
     → Meets (instrs.Jump (jumps.IfReferences e target)) (if_references e target o) frame

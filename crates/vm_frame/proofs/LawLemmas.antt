@@ -2,17 +2,20 @@
 use Rattle.std.proofs.Common.{◌≡◌, ◌⊎◌, ℕ, true, Contains, refl, subst, inl, inr}
 use Rattle.jv_base.specs.declared.method.Kind.{Kind}
 use Rattle.cf_code.specs.declared.instr.Instr.{Instr}
-use Rattle.cf_code.specs.declared.instr.Instr.TheVariants.{Nop, Constant, Local, Array, Stack, Number, Jump, Table, Lookup, Return, Field, Call, Object}
+use Rattle.cf_code.specs.declared.instr.Instr.TheVariants.{Nop, Constant, Local, Array, Stack, Number, Jump, Table}
+use Rattle.cf_code.specs.declared.instr.Instr.TheVariants.{Lookup, Return, Field, Call, Object}
 use Rattle.cf_code.specs.Kinds.{raises}
 use Rattle.cf_code.specs.Targets.{targets, goes_on}
 use Rattle.vm_world.specs.declared.frame.Frame.{Frame}
 use Rattle.vm_frame.specs.declared.effect.FrameEffect.{FrameEffect}
-use Rattle.vm_frame.specs.declared.effect.FrameEffect.TheVariants.{Gives, Drops, Copies, Swaps, Stores, Changes, Jumps, Raises, Sticks, Exceeds}
+use Rattle.vm_frame.specs.declared.effect.FrameEffect.TheVariants.{Gives, Drops, Copies, Swaps, Stores, Changes}
+use Rattle.vm_frame.specs.declared.effect.FrameEffect.TheVariants.{Jumps, Raises, Sticks, Exceeds}
 use Rattle.vm_frame.specs.declared.effect.FrameWent.TheVariants.{Next, Raised}
 use Rattle.vm_frame.specs.Effects.{done}
 use Rattle.vm_frame.specs.Calls.Suits.{Suits}
 use Rattle.vm_frame.specs.Steps.{frame_effect}
-use Rattle.vm_frame.proofs.EffectLemmas.{Meets, constant_meets, local_meets, stack_meets, jump_meets, table_meets, lookup_meets}
+use Rattle.vm_frame.proofs.EffectLemmas.{Meets, constant_meets, local_meets, stack_meets, jump_meets, table_meets}
+use Rattle.vm_frame.proofs.EffectLemmas.{lookup_meets}
 use Rattle.vm_frame.proofs.NumberLemmas.{number_meets}
 
 -- the effect of each instruction

@@ -87,7 +87,8 @@ long_divides Neg e = absurd cc
 
 conversion_meets : (c : Conversion) (frame : Frame)
     → Meets (instrs.Number (Convert c)) (numbers.conversion_effect c frame.stack) frame
-conversion_meets conversions.IntToLong frame = long_meets (Convert conversions.IntToLong) frame (int_in (top frame.stack))
+conversion_meets conversions.IntToLong frame = long_meets (Convert conversions.IntToLong) frame
+    (int_in (top frame.stack))
 conversion_meets conversions.LongToInt frame =
     int_meets (Convert conversions.LongToInt) frame (int_wrap w32) (long_in (top frame.stack))
 conversion_meets conversions.IntToByte frame =

@@ -75,7 +75,8 @@ pub wrapped_by : (v w : Width) (number low given : ℤ) → FitsSigned v number 
 unfolding int_wrap
 wrapped_by v w number low given number_fits low_fits is gives =
     gives ∙ ap (λ (z : ℤ). cast_signed w (unsigned_abs z)) (to_z-of_z v low low_fits ∙ is)
-    ∙ ap (λ (z : ℤ). cast_signed w (unsigned_abs (int_rem_euclid z (pos (2 ^ bits w))))) (to_z-of_z v number number_fits)
+    ∙ ap (λ (z : ℤ). cast_signed w (unsigned_abs (int_rem_euclid z (pos (2 ^ bits w)))))
+    (to_z-of_z v number number_fits)
 
 pub passed_on : (v w : Width) (given passed z : ℤ) → FitsSigned v passed → FitsSigned w given
     → passed ≡ cast_signed w (cast_unsigned w given) → given ≡ z → cast_signed v (cast_unsigned v passed) ≡ z
