@@ -42,7 +42,11 @@ fn values<R: Abort + AllocGlobal>(rt: &R, cell: &str) -> List<Value> {
 fn locals<R: Abort + AllocGlobal>(rt: &R, cell: &str) -> List<Option<Value>> {
     let mut locals = List::new(rt.alloc());
     for word in cell.split_whitespace() {
-        let local = if word == "-" { None } else { Some(value(rt, word)) };
+        let local = if word == "-" {
+            None
+        } else {
+            Some(value(rt, word))
+        };
         locals.add(local).expect(rt, "memory");
     }
     locals
