@@ -1,12 +1,12 @@
 -- The shape after an instruction, from the stack after it.
-use Rattle.std.proofs.Common.{◌≡◌, List, Option, Some, None, Result, Ok, Err, sym, ap, subst}
+use Rattle.std.proofs.Common.{◌≡◌, ℕ, List, [], ◌∷◌, ◌++◌, Option, Some, None, Result, Ok, Err, refl, sym, ap, subst}
 use Rattle.std.specs.Prelude.{IfOk, MatchOption}
 use Rattle.ck_shapes.specs.declared.shape.ValueType.{ValueType}
 use Rattle.ck_shapes.specs.declared.shape.Shape.{Shape}
 use Rattle.ck_shapes.specs.declared.shape.Limits.{Limits}
 use Rattle.ck_shapes.specs.declared.effect.Move.{Move}
 use Rattle.ck_shapes.specs.declared.effect.Effect.{Effect}
-use Rattle.ck_shapes.specs.declared.effect.Effect.TheVariants.{Moves, Replaces}
+use Rattle.ck_shapes.specs.declared.effect.Effect.TheVariants.{Moves, Stores, Replaces}
 use Rattle.ck_shapes.specs.Shape.{Applies, HaveSame, IsMoved, IsReplaced, local_at}
 use Rattle.ck_shapes.specs.Calls.Joins.{HasStack}
 
@@ -19,16 +19,16 @@ same_locals : (old new : Shape) → new.locals ≡ old.locals → HaveSame old.l
 same_locals old new e i = ap (λ (l : List (Option ValueType)). local_at l i) e
 
 module _ {E : Type 0} (limits : Limits) (old : Shape) (effect : Effect) where
-  moved_here : (how : Move) (stack : Option (List ValueType)) (r : Result (Option Shape) E)
+  pub moved_gives : (how : Move) (stack : Option (List ValueType)) (r : Result (Option Shape) E)
       → effect ≡ Moves how
       → MatchOption stack ((new : List ValueType) → IsMoved how old.stack new → ⊥) (λ new. IsMoved how old.stack new)
       → IfOk r (λ found. MatchOption found (stack ≡ None) (HasStack old stack)) → Gives limits effect old r
-  moved_here how stack (Err e) is m h = tt
-  moved_here how None (Ok None) is m h = λ new a. m new.stack
+  moved_gives how stack (Err e) is m h = tt
+  moved_gives how None (Ok None) is m h = λ new a. m new.stack
       (subst (λ (x : Effect). Applies limits x old new) is a).1
-  moved_here how (Some s) (Ok None) is m h = absurd cc
-  moved_here how None (Ok (Some new)) is m h = absurd cc
-  moved_here how (Some s) (Ok (Some new)) is m h =
+  moved_gives how (Some s) (Ok None) is m h = absurd cc
+  moved_gives how None (Ok (Some new)) is m h = absurd cc
+  moved_gives how (Some s) (Ok (Some new)) is m h =
       let e : s ≡ new.stack = cc in
       subst (λ (x : Effect). Applies limits x old new) (sym is)
       (same_locals old new h.0, subst (λ (l : List ValueType). IsMoved how old.stack l) e m)
@@ -48,25 +48,20 @@ module _ {E : Type 0} (limits : Limits) (old : Shape) (effect : Effect) where
       subst (λ (x : Effect). Applies limits x old new) (sym is)
       (same_locals old new h.0, subst (λ (l : List ValueType). IsReplaced takes leaves old.stack l) e m)
 
-  pub moved_gives : (how : Move) (items : List ValueType) (stack : Option (List ValueType))
-      (r : Result (Option Shape) E) → effect ≡ Moves how → items ≡ old.stack
-      → MatchOption stack ((new : List ValueType) → IsMoved how items new → ⊥) (λ new. IsMoved how items new)
+  pub replaced_gives : (takes leaves its these : List ValueType) (stack : Option (List ValueType))
+      (r : Result (Option Shape) E) → effect ≡ Replaces takes leaves → its ≡ takes → these ≡ leaves
+      → MatchOption stack ((new : List ValueType) → IsReplaced its these old.stack new → ⊥)
+      (λ new. IsReplaced its these old.stack new)
       → IfOk r (λ found. MatchOption found (stack ≡ None) (HasStack old stack)) → Gives limits effect old r
-  moved_gives how items stack r is same m h =
-      moved_here how stack r is
-      (subst (λ (l : List ValueType). MatchOption stack ((new : List ValueType) → IsMoved how l new → ⊥)
-      (λ new. IsMoved how l new)) same m) h
-
-  pub replaced_gives : (takes leaves its these items : List ValueType) (stack : Option (List ValueType))
-      (r : Result (Option Shape) E) → effect ≡ Replaces takes leaves → its ≡ takes → these ≡ leaves → items ≡ old.stack
-      → MatchOption stack ((new : List ValueType) → IsReplaced its these items new → ⊥)
-      (λ new. IsReplaced its these items new)
-      → IfOk r (λ found. MatchOption found (stack ≡ None) (HasStack old stack)) → Gives limits effect old r
-  replaced_gives takes leaves its these items stack r is t l same m h =
+  replaced_gives takes leaves its these stack r is t l m h =
       replaced_here takes leaves stack r is
       (subst (λ (x : List ValueType). MatchOption stack ((new : List ValueType) → IsReplaced x leaves old.stack new → ⊥)
       (λ new. IsReplaced x leaves old.stack new)) t
       (subst (λ (x : List ValueType). MatchOption stack ((new : List ValueType) → IsReplaced its x old.stack new → ⊥)
-      (λ new. IsReplaced its x old.stack new)) l
-      (subst (λ (x : List ValueType). MatchOption stack ((new : List ValueType) → IsReplaced its these x new → ⊥)
-      (λ new. IsReplaced its these x new)) same m))) h
+      (λ new. IsReplaced its x old.stack new)) l m)) h
+
+-- where no value of the type is on top, nothing is stored
+pub store_none : (limits : Limits) (t : ValueType) (n : ℕ) (old : Shape)
+    → ((stack : List ValueType) → IsReplaced (t ∷ []) [] old.stack stack → ⊥) → (new : Shape)
+    → Applies limits (Stores t n) old new → ⊥
+store_none limits t n old none new a = none (new.stack ++ []) (record { rest = new.stack; old_is = a.2; new_is = refl })

@@ -1,10 +1,12 @@
 pub mod AfterLemmas
+pub mod DeepLemmas
 pub mod DescriptorLemmas
 pub mod EffectLemmas
 pub mod FollowLemmas
 pub mod KnownLemmas
 pub mod LocalLemmas
 pub mod PlaceLemmas
+pub mod RoomLemmas
 pub mod RunLemmas
 pub mod SearchLemmas
 pub mod StackLemmas

@@ -20,9 +20,9 @@ at_behind (x ∷ xs) ys (suc i) le =
     let e : (i - length xs) ≡ (suc i - length (x ∷ xs)) = omega arith in
     at_behind xs ys i (omega (arith, le)) ∙ ap (local_at ys) e
 
-joined_push : (runs : List Locals) (run : Locals) → joined (runs ++ run ∷ []) ≡ joined runs ++ run
+pub joined_push : {A : Type 0} (runs : List (List A)) (run : List A) → joined (runs ++ run ∷ []) ≡ joined runs ++ run
 joined_push [] run = append-nil run
-joined_push (r ∷ rs) run = ap (λ (ls : Locals). r ++ ls) (joined_push rs run) ∙ sym (append_assoc r (joined rs) run)
+joined_push (r ∷ rs) run = ap (λ l. r ++ l) (joined_push rs run) ∙ sym (append_assoc r (joined rs) run)
 
 pub joined_behind : (runs new : List Locals) (run rest : Locals) → new ≡ runs ++ run ∷ []
     → joined new ++ rest ≡ joined runs ++ (run ++ rest)

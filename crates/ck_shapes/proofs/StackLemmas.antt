@@ -35,6 +35,10 @@ pub words_append : (xs ys : List ValueType) → words (xs ++ ys) ≡ words xs + 
 words_append [] ys = omega arith
 words_append (x ∷ xs) ys = omega (arith, words_append xs ys)
 
+pub words_long : (xs : List ValueType) → length xs ≤ words xs
+words_long [] = omega arith
+words_long (x ∷ xs) = omega (arith, width_some x, words_long xs)
+
 pub words_take_le : (i : ℕ) (xs : List ValueType) → words (take i xs) ≤ words xs
 words_take_le zero xs = omega arith
 words_take_le (suc i) [] = omega arith

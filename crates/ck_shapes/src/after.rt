@@ -8,8 +8,8 @@ use crate::effect::Effect;
 use crate::local::has_room;
 use crate::locals::{holds, store};
 use crate::shape::{Limits, Shape, ValueType};
-use crate::stack::{moved, replaced};
-use jv_list::{List, Mem};
+use crate::stack::Stack;
+use jv_list::Mem;
 use std::alloc::Global;
 
 impl Shape {
@@ -21,7 +21,7 @@ impl Shape {
     {
         match effect {
             Effect::Moves(how) => {
-                let stack = moved(alloc, self.stack.as_slice(), *how)?;
+                let stack = self.stack.moved(alloc, *how)?;
                 self.with_stack(alloc, stack)
             }
             Effect::Loads(of, index) => self.loaded(alloc, limits, *of, *index),
@@ -29,14 +29,14 @@ impl Shape {
             Effect::Increments(index) => self.incremented(alloc, limits, *index),
             Effect::Replaces(takes, leaves) => {
                 let (takes, leaves) = (takes.as_slice(), leaves.as_slice());
-                let stack = replaced(alloc, self.stack.as_slice(), takes, leaves)?;
+                let stack = self.stack.replaced(alloc, takes, leaves)?;
                 self.with_stack(alloc, stack)
             }
         }
     }
 
     /// The shape with another stack, if there is one.
-    fn with_stack(&self, alloc: Global, stack: Option<List<ValueType>>) -> Mem<Option<Shape>>
+    fn with_stack(&self, alloc: Global, stack: Option<Stack>) -> Mem<Option<Shape>>
         ensures { IfOk result (λ found. MatchOption found (stack ≡ None) (HasStack self.now stack)) }
     {
         let Some(stack) = stack else {
@@ -53,9 +53,10 @@ impl Shape {
         if !holds(limits, &self.locals, of, index) {
             return Ok(None);
         }
-        let mut after = self.copy(alloc)?;
-        after.stack.add(of)?;
-        Ok(Some(after))
+        Ok(Some(Shape {
+            locals: self.locals.copy(alloc)?,
+            stack: self.stack.pushed(alloc, of)?,
+        }))
     }
 
     fn stored(&self, alloc: Global, limits: Limits, of: ValueType, index: u16) -> Mem<Option<Shape>>
@@ -65,14 +66,10 @@ impl Shape {
         if !has_room(limits, of, index) {
             return Ok(None);
         }
-        let Some((top, rest)) = self.stack.as_slice().split_last() else {
+        let Some(stack) = self.stack.replaced(alloc, &[of], &[])? else {
             return Ok(None);
         };
-        if *top != of {
-            return Ok(None);
-        }
         let locals = store(alloc, limits, &self.locals, of, index)?;
-        let stack = List::copied(alloc, rest)?;
         Ok(Some(Shape { locals, stack }))
     }
 

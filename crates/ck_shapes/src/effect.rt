@@ -7,8 +7,8 @@ use jv_list::List;
 /// those from under them; and then those of the top, where `puts_above`.
 #[derive(Clone, Copy, Debug, PartialEq, Eq)]
 pub struct Move {
-    pub top: usize,
-    pub under: usize,
+    pub top: u8,
+    pub under: u8,
     pub puts_below: bool,
     pub puts_above: bool,
 }

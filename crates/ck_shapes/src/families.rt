@@ -78,7 +78,7 @@ fn array_effect(alloc: Global, array: Array) -> Mem<Option<Effect>>
 }
 
 /// A move: so many words on top, so many under them, and whether those of the top are put below and above these.
-fn moving(top: usize, under: usize, puts_below: bool, puts_above: bool) -> Move
+fn moving(top: u8, under: u8, puts_below: bool, puts_above: bool) -> Move
     ensures { result ≡ moving top under puts_below puts_above }
 {
     Move {

@@ -4,6 +4,7 @@ ghost use Rattle.ck_shapes.specs.Rules.{at_handler};
 
 use crate::effect::Effect;
 use crate::shape::{Limits, Shape, ValueType};
+use crate::stack::Stack;
 use jv_list::{List, Mem};
 use std::alloc::Global;
 
@@ -45,11 +46,9 @@ impl Shape {
     pub(crate) fn at_handler(&self, alloc: Global) -> Mem<Shape>
         ensures { IfOk result (λ shape. shape ≡ at_handler self.now) }
     {
-        let mut stack = List::new(alloc);
-        stack.add(ValueType::Reference)?;
         Ok(Shape {
             locals: self.locals.copy(alloc)?,
-            stack,
+            stack: Stack::new(alloc).pushed(alloc, ValueType::Reference)?,
         })
     }
 }

@@ -32,3 +32,4 @@ pub use locals::Locals;
 pub use method::method_flow;
 pub use shape::{Limits, Shape, ValueType};
 pub use signature::Signature;
+pub use stack::Stack;

@@ -6,7 +6,8 @@ ghost use Rattle.ck_shapes.specs.Calls.Runs.{joined};
 
 use crate::local::{common_locals, has_room, is_known_less};
 use crate::run::{
-    Run, are_known_less, common_runs, have_at_most, items_of, local_in, shared_runs, stored_runs,
+    LocalRun, Run, are_known_less, common_runs, have_at_most, items_of, local_in, shared_runs,
+    stored_runs,
 };
 use crate::shape::{Limits, ValueType};
 use jv_list::{List, Mem};
@@ -20,7 +21,7 @@ const RUN: usize = 1024;
 /// comes of a store share those that stay.
 #[derive(Debug, Drop)]
 pub struct Locals {
-    runs: List<Run>,
+    runs: List<LocalRun>,
 }
 
 impl Model for Locals {
@@ -35,7 +36,7 @@ impl Model for Locals {
 }
 
 /// The runs of a list.
-fn runs_of(alloc: Global, items: &[Option<ValueType>]) -> Mem<List<Run>>
+fn runs_of(alloc: Global, items: &[Option<ValueType>]) -> Mem<List<LocalRun>>
     ensures { IfOk result (λ runs. joined runs ≡ items.now) }
 {
     let mut runs = List::new(alloc);

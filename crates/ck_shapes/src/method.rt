@@ -7,6 +7,7 @@ use crate::flow::{Flow, Handler};
 use crate::locals::Locals;
 use crate::shape::{Limits, Shape, ValueType};
 use crate::signature::{Signature, read_signature};
+use crate::stack::Stack;
 use crate::step::steps_of;
 use cf_class::{ClassFile, Code, code_in, member_in};
 use cf_code::Row;
@@ -96,7 +97,7 @@ fn code_flow(
         },
         start: Shape {
             locals: Locals::new(alloc, locals.as_slice())?,
-            stack: List::new(alloc),
+            stack: Stack::new(alloc),
         },
     })
 }

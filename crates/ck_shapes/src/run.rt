@@ -11,23 +11,24 @@ use std::alloc::Global;
 use std::marker::Model;
 use std::sync::Arc;
 
-/// A run of locals. A copy shares its memory.
+/// A run of locals, or of values on a stack. A copy shares its memory.
 #[derive(Debug, Drop)]
-pub(crate) struct Run {
-    shared: Arc<List<Option<ValueType>>, Global>,
+pub(crate) struct Run<T> {
+    shared: Arc<List<T>, Global>,
 }
 
-impl Model for Run {
-    ghost use Rattle.std.specs.Prelude.{List, Option};
-    ghost use Rattle.ck_shapes.specs.declared.shape.ValueType.{ValueType};
+impl<T> Model for Run<T> {
+    ghost use Rattle.std.specs.Prelude.{List as list_of};
 
-    ghost Value = { List (Option ValueType) };
+    ghost Value = { list_of T };
 
     ghost view = { λ r. r.shared.value };
 }
 
-impl Run {
-    pub(crate) fn new(alloc: Global, items: &[Option<ValueType>]) -> Mem<Run>
+pub(crate) type LocalRun = Run<Option<ValueType>>;
+
+impl<T: Copy + Drop> Run<T> {
+    pub(crate) fn new(alloc: Global, items: &[T]) -> Mem<Run<T>>
         ensures { IfOk result (λ run. run ≡ items.now) }
     {
         let items = List::copied(alloc, items)?;
@@ -36,7 +37,7 @@ impl Run {
         })
     }
 
-    pub(crate) fn share(&self) -> Mem<Run>
+    pub(crate) fn share(&self) -> Mem<Run<T>>
         ensures { IfOk result (λ run. run ≡ self.now) }
     {
         Ok(Run {
@@ -44,7 +45,7 @@ impl Run {
         })
     }
 
-    pub(crate) fn items(&self) -> &[Option<ValueType>]
+    pub(crate) fn items(&self) -> &[T]
         ensures { result.now ≡ self.now }
     {
         self.shared.as_slice()
@@ -58,7 +59,7 @@ impl Run {
 }
 
 /// Whether runs have so many locals at most.
-pub(crate) fn have_at_most(runs: &[Run], count: usize) -> bool
+pub(crate) fn have_at_most(runs: &[LocalRun], count: usize) -> bool
     ensures { IsTrue result ↔ (length (joined runs.now) ≤ count) }
 {
     let mut room = count;
@@ -75,7 +76,7 @@ pub(crate) fn have_at_most(runs: &[Run], count: usize) -> bool
 }
 
 /// What is known of a local of runs.
-pub(crate) fn local_in(runs: &[Run], index: usize) -> Option<ValueType>
+pub(crate) fn local_in(runs: &[LocalRun], index: usize) -> Option<ValueType>
     ensures { result ≡ local_at (joined runs.now) index }
 {
     let mut at = index;
@@ -91,8 +92,8 @@ pub(crate) fn local_in(runs: &[Run], index: usize) -> Option<ValueType>
     None
 }
 
-/// The locals of runs as one list.
-pub(crate) fn items_of(alloc: Global, runs: &[Run]) -> Mem<List<Option<ValueType>>>
+/// What is in runs as one list.
+pub(crate) fn items_of<T: Copy + Drop>(alloc: Global, runs: &[Run<T>]) -> Mem<List<T>>
     ensures { IfOk result (λ items. items ≡ joined runs.now) }
 {
     let mut items = List::new(alloc);
@@ -103,7 +104,7 @@ pub(crate) fn items_of(alloc: Global, runs: &[Run]) -> Mem<List<Option<ValueType
 }
 
 /// The same runs.
-pub(crate) fn shared_runs(alloc: Global, runs: &[Run]) -> Mem<List<Run>>
+pub(crate) fn shared_runs<T: Copy + Drop>(alloc: Global, runs: &[Run<T>]) -> Mem<List<Run<T>>>
     ensures { IfOk result (λ new. new ≡ runs.now) }
 {
     let mut new = List::with_capacity(alloc, runs.len())?;
@@ -153,7 +154,7 @@ fn is_far(length: usize, reach: usize) -> bool
 }
 
 /// A run after a store, which is the same where the store is far from it.
-fn stored_run(alloc: Global, run: &Run, of: ValueType, reach: usize) -> Mem<Run>
+fn stored_run(alloc: Global, run: &LocalRun, of: ValueType, reach: usize) -> Mem<LocalRun>
     ensures { IfOk result (λ new. new ≡ stored_from run.now of reach) }
 {
     if is_far(run.length(), reach) {
@@ -166,10 +167,10 @@ fn stored_run(alloc: Global, run: &Run, of: ValueType, reach: usize) -> Mem<Run>
 /// Runs after a store.
 pub(crate) fn stored_runs(
     alloc: Global,
-    runs: &[Run],
+    runs: &[LocalRun],
     of: ValueType,
     reach: usize,
-) -> Mem<List<Run>>
+) -> Mem<List<LocalRun>>
     ensures { IfOk result (λ new. joined new ≡ stored_from (joined runs.now) of reach) }
 {
     let mut new = List::with_capacity(alloc, runs.len())?;
@@ -184,7 +185,7 @@ pub(crate) fn stored_runs(
 }
 
 /// What two frames both know of the locals of a run, which is one of the two if it can be.
-fn common_run(alloc: Global, left: &Run, right: &Run) -> Mem<Run>
+fn common_run(alloc: Global, left: &LocalRun, right: &LocalRun) -> Mem<LocalRun>
     requires { length left.now ≡ length right.now }
     ensures common { IfOk result (λ both. AreCommon left.now right.now both) }
     ensures long { IfOk result (λ both. length both ≡ length left.now) }
@@ -201,7 +202,11 @@ fn common_run(alloc: Global, left: &Run, right: &Run) -> Mem<Run>
 }
 
 /// What two frames both know of the locals of runs. None where the runs are not of the same lengths.
-pub(crate) fn common_runs(alloc: Global, left: &[Run], right: &[Run]) -> Mem<Option<List<Run>>>
+pub(crate) fn common_runs(
+    alloc: Global,
+    left: &[LocalRun],
+    right: &[LocalRun],
+) -> Mem<Option<List<LocalRun>>>
     ensures common { IfOk result (λ o. IfSome o (λ both. AreCommon (joined left.now) (joined right.now) (joined both))) }
     ensures long { IfOk result (λ o. IfSome o (λ both. length (joined both) ≡ length (joined left.now))) }
 {
@@ -224,7 +229,7 @@ pub(crate) fn common_runs(alloc: Global, left: &[Run], right: &[Run]) -> Mem<Opt
 
 /// Whether less is known of the locals of the first runs than of the second, or the same. None where the runs are not of
 /// the same lengths.
-pub(crate) fn are_known_less(less: &[Run], more: &[Run]) -> Option<bool>
+pub(crate) fn are_known_less(less: &[LocalRun], more: &[LocalRun]) -> Option<bool>
     ensures yes { result ≡ Some true → IsKnownLess (joined less.now) (joined more.now) }
     ensures no { result ≡ Some false → IsKnownOnlyHere (joined less.now) (joined more.now) }
 {

@@ -7,7 +7,6 @@ ghost use Rattle.ck_shapes.specs.Calls.Search.{IsMeeting, Leads, Stand, AreBelow
 use crate::flow::Flow;
 use crate::locals::{are_less, common};
 use crate::shape::{Limits, Shape};
-use crate::stack::has_words;
 use crate::way::way_of;
 use jv_list::{List, Mem};
 use std::alloc::Global;
@@ -37,14 +36,14 @@ fn met(alloc: Global, known: &Option<Shape>, shape: &Shape) -> Mem<Meeting>
     let Some(known) = known else {
         return Ok(Meeting::Becomes(shape.copy(alloc)?));
     };
-    if known.stack.as_slice() != shape.stack.as_slice() {
+    if !known.stack.is_same(alloc, &shape.stack)? {
         return Ok(Meeting::Differs);
     }
     if are_less(alloc, &known.locals, &shape.locals)? {
         return Ok(Meeting::Stays);
     }
     let locals = common(alloc, &known.locals, &shape.locals)?;
-    let stack = List::copied(alloc, shape.stack.as_slice())?;
+    let stack = shape.stack.copy(alloc)?;
     Ok(Meeting::Becomes(Shape { locals, stack }))
 }
 
@@ -60,7 +59,7 @@ pub(crate) fn lead(
     ensures { IfOk result (λ b. Leads limits known.old pc shape.now b known.new) }
 {
     let place = usize::from(pc);
-    if place >= known.shapes.length() || !has_words(shape.stack.as_slice(), limits.max_stack) {
+    if place >= known.shapes.length() || !shape.stack.has_words(limits.max_stack) {
         return Ok(false);
     }
     match met(alloc, known.shapes.at(place), shape)? {

@@ -3,7 +3,8 @@ ghost use Rattle.std.specs.Prelude.{◌≡◌, IfOk};
 ghost use Rattle.ck_shapes.specs.Shape.{width};
 
 use crate::locals::Locals;
-use jv_list::{List, Mem};
+use crate::stack::Stack;
+use jv_list::Mem;
 use std::alloc::Global;
 
 /// The type of a value in a frame (JVM Specification SE 8, 2.11.1): an int stands for the smaller types too. Float and
@@ -32,7 +33,7 @@ impl ValueType {
 #[derive(Debug, Drop)]
 pub struct Shape {
     pub locals: Locals,
-    pub stack: List<ValueType>,
+    pub stack: Stack,
 }
 
 impl Shape {
@@ -41,7 +42,7 @@ impl Shape {
     {
         Ok(Shape {
             locals: self.locals.copy(alloc)?,
-            stack: List::copied(alloc, self.stack.as_slice())?,
+            stack: self.stack.copy(alloc)?,
         })
     }
 }

@@ -14,11 +14,22 @@ const FRONT: &str = "
     0c0007000b090006000c0100025b440c0007000e090006000f01000b28494a5b5b494c543b294a0c000700110a000600120b000600120100
     032829560c000700150a00060016010004436f6465010001540700190100106a6176612f6c616e672f4f626a65637407001b0100016d";
 
+/// Digits, and how often they stand there, which is once where no `*` says it.
+fn repeated(word: &str) -> (&str, u16) {
+    match word.split_once('*') {
+        Some((digits, count)) => (digits, count.parse::<u16>().unwrap_or(0)),
+        None => (word, 1),
+    }
+}
+
 /// The bytes of hexadecimal digits, between which there may be blanks.
-fn bytes_of<R: Abort + AllocGlobal>(rt: &R, digits: &str) -> Vec<u8> {
+fn bytes_of<R: Abort + AllocGlobal>(rt: &R, text: &str) -> Vec<u8> {
     let mut joined = String::new(rt.alloc());
-    for word in digits.split_whitespace() {
-        joined.push_str(word).expect(rt, "memory");
+    for word in text.split_whitespace() {
+        let (digits, count) = repeated(word);
+        for _ in 0..count {
+            joined.push_str(digits).expect(rt, "memory");
+        }
     }
     hex::decode(rt.alloc(), joined.as_str()).expect(rt, "hexadecimal digits")
 }

@@ -1,5 +1,7 @@
 // Code, written out: instructions with commas between them, each at the pc that is its number.
-use ck_shapes::{Action, Effect, Flow, Handler, Limits, Locals, Move, Shape, Step, ValueType};
+use ck_shapes::{
+    Action, Effect, Flow, Handler, Limits, Locals, Move, Shape, Stack, Step, ValueType,
+};
 use jv_list::{List, Mem};
 use std::alloc::Global;
 
@@ -65,7 +67,7 @@ fn replaces(alloc: Global, takes: &str, leaves: &str) -> Mem<Effect> {
     Ok(Effect::Replaces(types(alloc, takes)?, types(alloc, leaves)?))
 }
 
-fn moves(top: usize, under: usize, puts_below: bool, puts_above: bool) -> Effect {
+fn moves(top: u8, under: u8, puts_below: bool, puts_above: bool) -> Effect {
     Effect::Moves(Move {
         top,
         under,
@@ -150,7 +152,7 @@ pub(crate) fn flow(alloc: Global, row: &str) -> Mem<Flow> {
     };
     let start = Shape {
         locals: Locals::new(alloc, locals(alloc, cell(row, 1))?.as_slice())?,
-        stack: List::new(alloc),
+        stack: Stack::new(alloc),
     };
     Ok(Flow {
         steps: steps(alloc, cell(row, 3))?,

@@ -4,8 +4,8 @@ use crate::code::{cell, is_row};
 use ck_shapes::{ShapeFault, check_shapes, signatures};
 use std::test::Fail;
 
-// max_stack and max_locals; the method, static or not; the handlers (from, below, handler); the code; whether there are
-// shapes. The JVM of JDK 17 says the same of each row: it verifies such classes, of major 49, by finding the types.
+// max_stack and max_locals; the method, static or not; the handlers (from, below, handler); the code, where `*` says how often
+// bytes stand; whether there are shapes. The JVM of JDK 17 says the same of each row: it verifies such classes, of major 49, by finding the types.
 const METHODS: &str = "
     // returns fit the descriptor
     1 0 | static ()I | | 03 ac | yes
@@ -206,6 +206,53 @@ const METHODS: &str = "
     1 0 | static ()I | | 03 c1 00 06 ac | no
     1 0 | static ()V | | 01 bf | yes
     1 0 | static ()V | | 03 bf | no
+    // an instruction that finds nothing on the stack
+    2 0 | static ()V | | 60 b1 | no
+    2 0 | static ()V | | 00 00 62 b1 | no
+    // a long of which one way to a join overwrote a half, or none
+    2 3 | static (IJ)V | | 1a 99 00 05 03 3c b1 | yes
+    2 3 | static (IJ)V | | 1a 99 00 05 03 3c 1f 58 b1 | no
+    2 3 | static (IJ)V | | 1a 99 00 05 03 3d 1f 58 b1 | no
+    2 3 | static (IJ)V | | 1a 99 00 05 01 4d 1f 58 b1 | no
+    2 3 | static (IJ)V | | 1a 99 00 05 09 40 1f 58 b1 | yes
+    2 4 | static (IJ)V | | 1a 99 00 05 09 41 1f 58 b1 | no
+    2 4 | static (IJ)V | | 1a 99 00 05 03 3e 1f 58 b1 | yes
+    // the second place of a long is no value
+    2 4 | static (IJ)V | | 20 58 b1 | no
+    1 3 | static (IJ)V | | 1c 57 b1 | no
+    1 3 | static (IJ)V | | 84 02 01 b1 | no
+    1 4 | static (IJI)V | | 1d 57 b1 | yes
+    1 4 | static (IJI)V | | 1c 57 b1 | no
+    // a handler of a store, before and behind it; of its own range; with another way to it
+    1 1 | static (I)V | 2 4 6 | 01 57 01 4b 00 b1 57 1a 57 b1 | yes
+    1 1 | static (I)V | 2 5 6 | 01 57 01 4b 00 b1 57 1a 57 b1 | no
+    1 1 | static (I)V | 2 4 6 | 01 57 01 4b 00 b1 57 2a 57 b1 | no
+    1 1 | static (I)V | 4 5 6 | 01 57 01 4b 00 b1 57 2a 57 b1 | yes
+    1 0 | static ()V | 0 2 1 | 01 bf | yes
+    2 0 | static ()V | 0 3 2 | 03 57 57 b1 | no
+    1 0 | static ()V | 0 1 2 | 01 00 57 b1 | yes
+    1 0 | static ()V | 0 1 2 | 03 00 57 b1 | no
+    // the stack at a way back
+    2 1 | static (I)V | | 03 1a 99 ff ff b1 | yes
+    2 1 | static (I)V | | 03 1a 99 ff fe b1 | no
+    2 0 | static ()V | | 03 59 9a ff ff 57 b1 | yes
+    3 1 | static (I)V | | 03 1a 99 ff ff 57 03 03 a7 ff f9 | no
+    // code that no frame comes to may end behind the last instruction
+    1 0 | static ()V | | b1 03 | yes
+    0 0 | static ()V | | a7 00 04 57 b1 | yes
+    // what a return leaves on the stack
+    3 0 | static ()I | | 01 09 58 03 ac | yes
+    2 0 | static ()I | | 01 03 ac | yes
+    3 0 | static ()V | | 09 03 b1 | yes
+    // many values on the stack
+    1100 0 | static ()V | | 03*1100 57*1100 b1 | yes
+    1099 0 | static ()V | | 03*1100 57*1100 b1 | no
+    1100 0 | static ()V | | 03*1100 57*1101 b1 | no
+    1024 0 | static ()V | | 03*1024 57*510 5e 57*516 b1 | yes
+    1024 0 | static ()V | | 03*1024 57*510 5e 57*517 b1 | no
+    1025 0 | static ()LT; | | 01 03*1024 57*1024 b0 | yes
+    1024 1 | static (I)V | | 03*1023 1a 99 04 03 57*512 03*512 57*1023 b1 | yes
+    1024 1 | static (I)V | | 03*1023 1a 99 04 03 57*512 01 03*511 57*1023 b1 | no
 ";
 
 #[test]

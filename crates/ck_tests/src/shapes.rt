@@ -99,7 +99,7 @@ fn what_is_known_at_a_join_is_common(rt: HostRuntime) -> Result<(), Fail> {
         return Ok(());
     };
     if let Some(shape) = shapes.at(4) {
-        assert!(rt; shape.stack.is_empty());
+        assert!(rt; shape.stack.to_list(rt.alloc())?.is_empty());
         assert_eq!(rt; shape.locals.at(0), None);
         assert_eq!(rt; shape.locals.at(1), Some(ValueType::Reference));
     }

@@ -4,8 +4,8 @@ use Rattle.std.specs.List.{flat_map}
 use Rattle.ck_shapes.specs.declared.shape.ValueType.{ValueType}
 use Rattle.ck_shapes.specs.Shape.{is_long}
 
--- the locals of runs
-abbrev pub joined : List (List (Option ValueType)) → List (Option ValueType)
+-- what is in runs
+abbrev pub joined : {A : Type 0} → List (List A) → List A
 joined runs = flat_map (λ r. r) runs
 
 -- what is known of a local where a value was stored to one near it; so many locals are left from here to the one behind

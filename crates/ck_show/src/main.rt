@@ -1,0 +1,22 @@
+//! `ck_show`: which methods of class files have shapes, a line a method.
+#![tactic(auto)]
+
+mod answer;
+mod show;
+mod verdict;
+
+use crate::show::show;
+use io_edges::{DiskFolder, OutSink, words_of};
+use std::alloc::AllocError;
+use std::process::ExitCode;
+
+fn main(rt: HostRuntime) -> ExitCode {
+    match words_of(&rt) {
+        Ok(words) => {
+            let mut folder = DiskFolder::new(&rt);
+            let mut sink = OutSink::new(&rt);
+            ExitCode::from(show(rt.alloc(), words.as_slice(), &mut folder, &mut sink))
+        }
+        Err(AllocError) => ExitCode::from(6),
+    }
+}
