@@ -54,6 +54,7 @@ module _ (classes more : List ClassFile) (grows : Grows classes more) where
       field = has.field;
       there = has.there;
       not_static = has.not_static;
+      form = has.form;
       type = has.type;
     }
 

@@ -1,5 +1,5 @@
 -- The faults of walks.
-use Rattle.std.specs.Prelude.{ℕ, List}
+use Rattle.std.specs.Prelude.{◌≡◌, ℕ, List}
 use Rattle.hi_tree.specs.declared.fault.TreeFault.{TreeFault}
 use Rattle.hi_tree.specs.declared.fault.TreeFault.TheVariants as faults
 use Rattle.hi_tree.specs.Walks.{Climb, Stops, not_known, circular}
@@ -10,3 +10,7 @@ IsWalkFault w name (faults.NotLoaded missing) = Stops w name (not_known missing)
 IsWalkFault w name faults.Circular = Stops w name circular
 IsWalkFault w name faults.NoMemory = Unit {0}
 IsWalkFault w name other = ⊥
+
+-- a walk comes to its end: no fault stands but want of memory
+abbrev pub IsUnhinderedWalk : Climb → List ℕ → Type 0
+IsUnhinderedWalk w name = (fault : TreeFault) → IsWalkFault w name fault → fault ≡ faults.NoMemory

@@ -2,7 +2,7 @@
 use Rattle.std.specs.Prelude.{◌≡◌, ℕ, suc, ◌+◌, ◌≤◌, false, List, Some, None, Contains, ◌⊎◌}
 use Rattle.cf_class.specs.declared.class_file.ClassFile.{ClassFile}
 use Rattle.cf_class.specs.declared.member.Member.{Member}
-use Rattle.jv_base.specs.Descriptor.{object, FieldType, MethodType, IsMethodType, field_text, method_text}
+use Rattle.jv_base.specs.Descriptor.{object, FieldType, MethodType, IsFieldType, IsMethodType, field_text, method_text}
 use Rattle.jv_base.specs.declared.method.MethodId.{MethodId}
 use Rattle.hi_tree.specs.declared.known.Up.TheVariants.{Superclasses}
 use Rattle.hi_tree.specs.Classes.{builtin_of, class_in, known_class}
@@ -34,6 +34,7 @@ pub record HasField (classes : List ClassFile) (name : List ℕ) (t : FieldType)
   pub field : Member
   pub there : Contains file.fields field
   pub not_static : has_flag field.flags 0x0008 ≡ false
+  pub form : IsFieldType t
   pub type : field.desc.name ≡ field_text t
 
 -- a type stands in inputs at a depth: that of the receiver and of each parameter at 1; the elements of an array and the

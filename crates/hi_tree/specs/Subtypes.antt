@@ -5,6 +5,7 @@ use Rattle.jv_base.specs.Descriptor.{ElementType, base, object, FieldType}
 use Rattle.lib_rows.specs.Classes.{class_name}
 use Rattle.lib_rows.specs.declared.class.Builtin.TheVariants.{Object, Cloneable, Serializable}
 use Rattle.hi_tree.specs.declared.fault.TreeFault.{TreeFault}
+use Rattle.hi_tree.specs.declared.fault.TreeFault.TheVariants.{NoMemory}
 use Rattle.hi_tree.specs.declared.known.Up.TheVariants.{Supertypes}
 use Rattle.hi_tree.specs.Classes.{known_class}
 use Rattle.hi_tree.specs.Supers.{names_above_some, climb}
@@ -62,3 +63,7 @@ IsSubFaultAt classes a b (suc m) (suc n) fault = IsSubFaultAt classes a b m n fa
 
 abbrev pub IsSubtypeFault : List ClassFile → FieldType → FieldType → TreeFault → Type 0
 IsSubtypeFault classes a b fault = IsSubFaultAt classes a.element b.element a.dimensions b.dimensions fault
+
+-- the walk that decides comes to its end: no fault stands but want of memory
+abbrev pub IsUnhindered : List ClassFile → FieldType → FieldType → Type 0
+IsUnhindered classes a b = (fault : TreeFault) → IsSubtypeFault classes a b fault → fault ≡ NoMemory

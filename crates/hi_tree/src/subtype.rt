@@ -1,8 +1,8 @@
 // Which types are subtypes of which (JVM Specification SE 8, 4.10.1.2).
 ghost use Rattle.std.specs.Prelude.{◌≡◌, ◌↔◌, IsTrue, IfOk, IfErr};
 ghost use Rattle.jv_base.specs.Types.{field_of};
-ghost use Rattle.hi_tree.specs.Subtypes.{IsSubclass, IsArrayTop, IsSubtype, IsSubtypeFault, class_climb};
-ghost use Rattle.hi_tree.specs.Faults.{IsWalkFault};
+ghost use Rattle.hi_tree.specs.Subtypes.{IsSubclass, IsArrayTop, IsSubtype, IsSubtypeFault, IsUnhindered, class_climb};
+ghost use Rattle.hi_tree.specs.Faults.{IsUnhinderedWalk, IsWalkFault};
 ghost use Rattle.hi_tree.specs.Calls.Shapes.{type_of};
 
 use crate::fault::TreeFault;
@@ -49,6 +49,7 @@ fn is_array_top(class: &Name) -> bool
 impl Classes {
     fn is_subclass(&self, alloc: Global, class: &Name, top: &Name) -> Result<bool, TreeFault>
         ensures decides { IfOk result (λ yes. IsTrue yes ↔ IsSubclass self.now class.now top.now) }
+        ensures whole { IfOk result (λ _. IsUnhinderedWalk (class_climb self.now top.now) class.now) }
         ensures fault { IfErr result (IsWalkFault (class_climb self.now top.now) class.now) }
     {
         let walked = climb_from(
@@ -67,6 +68,7 @@ impl Classes {
     /// Whether a type is a subtype of another.
     pub fn subtype(&self, alloc: Global, a: &Ty, b: &Ty) -> Result<bool, TreeFault>
         ensures decides { IfOk result (λ yes. IsTrue yes ↔ IsSubtype self.now (field_of a.now) (field_of b.now)) }
+        ensures whole { IfOk result (λ _. IsUnhindered self.now (field_of a.now) (field_of b.now)) }
         ensures fault { IfErr result (IsSubtypeFault self.now (field_of a.now) (field_of b.now)) }
     {
         match shape_of(a) {

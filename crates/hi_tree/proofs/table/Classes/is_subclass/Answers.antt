@@ -3,6 +3,7 @@ use Rattle.hi_tree.specs.declared.walk.Walked.{Walked}
 use Rattle.hi_tree.specs.Subtypes.{class_climb}
 use Rattle.hi_tree.specs.Calls.Walking.{IsWalked}
 use Rattle.hi_tree.proofs.SubtypeLemmas.{found_sub, clean_sub}
+use Rattle.hi_tree.proofs.FaultLemmas.{clean_fault, found_fault}
 use Rattle.hi_tree.proofs.table.Classes.is_subclass.Goals as goal
 use Rattle.hi_tree.proofs.table.Classes.is_subclass.Goals.{in-Found, in-Clean}
 
@@ -26,4 +27,19 @@ returns-clause-decides c =
             (λ sub. absurd (clean_sub classes class top (subst (λ (x : Walked). IsWalked
                 (class_climb classes top) class x) w.in-Clean.is h).clean sub)),
           )
+    ]
+
+pub returns-clause-whole : goal.returns-clause-whole
+returns-clause-whole c =
+    let w = class_climb c.args.self.now c.args.top.now in
+    let class : List ℕ = c.args.class.now in
+    let h = subst (λ (t : List ℕ). IsWalked
+    (class_climb c.args.self.now t) class c.in_ok-walked.walked) c.as_str.ensures c.in_ok-walked.ensures.found in
+    elim c.match-walked.branch [
+      | in-Found b ↦
+          rw b.result-is
+          (λ f. found_fault w class f _ (subst (λ (x : Walked). IsWalked w class x) b.in-Found.is h))
+      | in-Clean b ↦
+          rw b.result-is
+          (λ f. clean_fault w class f (subst (λ (x : Walked). IsWalked w class x) b.in-Clean.is h).clean)
     ]
