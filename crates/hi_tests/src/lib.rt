@@ -6,6 +6,8 @@ mod cases;
 #[cfg(test)]
 mod hierarchies;
 #[cfg(test)]
+mod inputs;
+#[cfg(test)]
 mod names;
 #[cfg(test)]
 mod sizes;

@@ -1,0 +1,10 @@
+pub mod SetLemmas
+pub mod SameLemmas
+pub mod GrowLemmas
+pub mod LevelLemmas
+pub mod StandLemmas
+pub mod UpwardLemmas
+pub mod AddLemmas
+pub mod MadeLemmas
+pub mod BelowLemmas
+pub mod FieldLemmas
