@@ -10,3 +10,10 @@ pub mod StepLemmas
 pub mod ClosingLemmas
 pub mod SameLemmas
 pub mod TakeLemmas
+pub mod GrownLemmas
+pub mod RunLemmas
+pub mod EntryLemmas
+pub mod LogLemmas
+pub mod QueueLemmas
+pub mod CoreLemmas
+pub mod CodeLemmas

@@ -11,10 +11,10 @@ use Rattle.bd_core.specs.declared.member.Member.{Member}
 use Rattle.bd_core.specs.declared.member.Member.TheVariants.{Known, Method, Made, Called, Initialised, Under}
 use Rattle.bd_core.specs.contracts.member.MemberPartialEq.TheImpl as member_eq
 
-same_names : (x y : List ℕ) → bytes_eq x y ≡ true → x ≡ y
+pub same_names : (x y : List ℕ) → bytes_eq x y ≡ true → x ≡ y
 same_names x y = (bytes_eq-Decides x y).0
 
-same_methods : (x y : MethodId) → (method_eq.ghosts).eq x y ≡ true → x ≡ y
+pub same_methods : (x y : MethodId) → (method_eq.ghosts).eq x y ≡ true → x ≡ y
 same_methods x y e =
     let class = and_parts (bytes_eq x.class y.class) (bytes_eq x.name y.name && bytes_eq x.desc y.desc) e in
     let rest = and_parts (bytes_eq x.name y.name) (bytes_eq x.desc y.desc) class.1 in

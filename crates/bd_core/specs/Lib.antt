@@ -3,5 +3,8 @@ pub mod Rows
 pub mod Rules
 pub mod Least
 pub mod Loads
+pub mod Told
+pub mod Runs
+pub mod Loading
 pub mod Laws
 pub mod Calls

@@ -59,7 +59,7 @@ fn follow(
 }
 
 /// The least set over what was given, where it begins with all that the entry of a job gives.
-pub fn close(alloc: Global, loaded: &Loaded, start: List<Member>) -> Mem<List<Member>>
+pub(crate) fn close(alloc: Global, loaded: &Loaded, start: List<Member>) -> Mem<List<Member>>
     ensures { (j : job) → ((x : a_member) → Contains start x ↔ FromEntry j (given loaded.now) x) → IfOk result (λ list. IsLeast j (given loaded.now) list) }
 {
     let mut found = IndexSet::new(alloc);

@@ -1,9 +1,13 @@
 // Small worlds, and the least sets over them.
+ghost use Rattle.bd_core.specs.declared.item.Item.TheVariants as items;
+ghost use Rattle.bd_core.specs.Told.{Fits};
+ghost use Rattle.bd_core.specs.Loading.{IsKept};
+
 use crate::tables::{bytes_of, rows};
-use bd_core::{Loaded, Member, close, least_is_contained};
+use bd_core::{Core, Facts, Item, Member, Took, least_is_contained};
 use bd_scan::scan;
-use cf_class::{ClassFile, code_in, read_class};
-use jv_base::{List, MethodId, Name};
+use cf_class::read_class;
+use jv_base::{MethodId, Name};
 use std::process::Abort;
 
 // Three classes that were put together by hand: T.e makes an A and calls A.m; T.u makes a B, which extends A and
@@ -158,47 +162,71 @@ fn name_of<R: Abort + AllocGlobal>(rt: &R, text: &str) -> Name {
     Name::from_text(rt.alloc(), text).expect(rt, "memory")
 }
 
-/// Puts in the facts of each method of a class that has code.
-fn put_facts<R: Abort + AllocGlobal>(rt: &R, loaded: &mut Loaded, class: &ClassFile) {
-    for member in &class.methods {
-        if code_in(member.attributes.as_slice()).is_some() {
-            let method = MethodId {
-                class: name_of(rt, class.this_class.name.as_str()),
-                name: name_of(rt, member.name.name.as_str()),
-                desc: name_of(rt, member.desc.name.as_str()),
-            };
-            let facts = scan(rt.alloc(), class, &method).expect(rt, "memory");
-            assert!(rt; loaded.add_facts(method, facts).is_ok());
+/// What there is under the name of a class.
+fn class_of<R: Abort + AllocGlobal>(rt: &R, classes: &[&str], name: &Name) -> Facts
+    ensures { Fits (items.Class name.now) result }
+{
+    'classes: for digits in classes {
+        let class = read_class(rt.alloc(), &bytes_of(rt, digits)).expect(rt, "a class");
+        if class.this_class.name.equals(name) {
+            return Facts::Class(class);
+        }
+    }
+    Facts::Absent
+}
+
+/// What there is of an item.
+fn facts_of<R: Abort + AllocGlobal>(rt: &R, core: &Core, classes: &[&str], item: &Item) -> Facts
+    ensures { Fits item.now result }
+{
+    match item {
+        Item::Class(name) => class_of(rt, classes, name),
+        Item::Method(method) => {
+            let class = core
+                .class(&method.class)
+                .expect(rt, "a class that was read");
+            Facts::Method(scan(rt.alloc(), class, method).expect(rt, "memory"))
         }
     }
 }
 
-/// The classes, and the facts of all their methods.
-fn loaded_of<R: Abort + AllocGlobal>(rt: &R, classes: &[&str]) -> Loaded {
-    let alloc = rt.alloc();
-    let mut loaded = Loaded::new(alloc);
-    for digits in classes {
-        let class = read_class(alloc, &bytes_of(rt, digits)).expect(rt, "a class");
-        put_facts(rt, &mut loaded, &class);
-        if loaded.classes().find(&class.this_class.name).is_none() {
-            assert!(rt; loaded.add_class(alloc, class).is_ok());
+/// A worker takes an item and gives its facts; whether one was pending.
+fn step<R: Abort + AllocGlobal>(rt: &R, core: &mut Core, classes: &[&str]) -> bool
+    requires { IsKept core.old }
+    ensures { IsKept core.new }
+{
+    match core.take(0) {
+        Took::Item(item) => {
+            let facts = facts_of(rt, core, classes, &item);
+            assert!(rt; core.give(0, &item, facts).is_ok());
+            true
+        }
+        other => {
+            assert!(rt; matches!(other, Took::Closed));
+            false
         }
     }
-    loaded
 }
 
-/// What an entry gives that is static and has neither parameters nor a result.
-fn start_of<R: Abort + AllocGlobal>(rt: &R, class: &str, name: &str) -> List<Member> {
-    let mut start = List::new(rt.alloc());
-    let entry = MethodId {
+/// Tells a core all that it asks for.
+fn tell_all<R: Abort + AllocGlobal>(rt: &R, loader: &mut Core, classes: &[&str])
+    requires { IsKept loader.old }
+    ensures { IsKept loader.new }
+{
+    'steps: for _ in 0..1000 {
+        if !step(rt, loader, classes) {
+            break;
+        }
+    }
+}
+
+/// A method that is static and has neither parameters nor a result.
+fn entry_of<R: Abort + AllocGlobal>(rt: &R, class: &str, name: &str) -> MethodId {
+    MethodId {
         class: name_of(rt, class),
         name: name_of(rt, name),
         desc: name_of(rt, "()V"),
-    };
-    start.add(Member::Method(entry)).expect(rt, "memory");
-    let class = name_of(rt, class);
-    start.add(Member::Initialised(class)).expect(rt, "memory");
-    start
+    }
 }
 
 /// The line of a member that is listed.
@@ -219,8 +247,10 @@ fn line_of<R: Abort + AllocGlobal>(rt: &R, member: &Member) -> Option<String> {
 }
 
 fn lists<R: Abort + AllocGlobal>(rt: &R, classes: &[&str], entry: (&str, &str), wanted: &str) {
-    let loaded = loaded_of(rt, classes);
-    let members = close(rt.alloc(), &loaded, start_of(rt, entry.0, entry.1)).expect(rt, "memory");
+    let entry = entry_of(rt, entry.0, entry.1);
+    let mut core = Core::start(rt.alloc(), entry, 2).expect(rt, "memory");
+    tell_all(rt, &mut core, classes);
+    let members = core.members().expect(rt, "memory");
     let mut lines = Vec::new(rt.alloc());
     for member in &members {
         if let Some(line) = line_of(rt, member) {
@@ -242,4 +272,28 @@ fn the_least_sets_of_small_worlds_are_found(rt: HostRuntime) {
     lists(&rt, &[T_ALONE], ("T", "e"), WITHOUT_A);
     lists(&rt, &[START, SQUARE, SHAPE, ROUND], ("Start", "run"), RUNS);
     least_is_contained();
+}
+
+#[test]
+fn an_item_is_one_workers_until_it_is_given_back(rt: HostRuntime) {
+    let mut core = Core::start(rt.alloc(), entry_of(&rt, "T", "e"), 2).expect(&rt, "memory");
+    let wanted = Item::Class(name_of(&rt, "T"));
+    match core.take(0) {
+        Took::Item(item) => {
+            assert!(&rt; item == wanted);
+            assert!(&rt; matches!(core.take(1), Took::Later));
+            core.give_back(0, &item);
+        }
+        _ => panic!(&rt; "nothing was taken"),
+    }
+    match core.take(1) {
+        Took::Item(item) => {
+            assert!(&rt; item == wanted);
+            assert!(&rt; core.give(1, &item, Facts::Absent).is_ok());
+        }
+        _ => panic!(&rt; "nothing was taken"),
+    }
+    assert!(&rt; matches!(core.take(0), Took::Closed));
+    assert!(&rt; core.events().len() == 4);
+    assert!(&rt; core.class(&name_of(&rt, "T")).is_none());
 }

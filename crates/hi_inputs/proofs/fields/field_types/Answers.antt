@@ -11,7 +11,8 @@ classes-init c = rw c.new-types.ensures (each_none (DeclaresType c.args.classes.
 
 pub classes-preserved : goal.classes-preserved
 classes-preserved c =
-    each_step (DeclaresType c.args.classes.now) [] c.as_slice-above-items.result.now c.classes.above-index c.above-item.result
+    each_step (DeclaresType c.args.classes.now) [] c.as_slice-above-items.result.now c.classes.above-index
+    c.above-item.result
     c.classes.types c.put_declared.new.out (search rules) (search rules) c.classes.invariant (search rules)
 
 pub returns : goal.returns
