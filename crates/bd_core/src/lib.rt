@@ -21,7 +21,7 @@ mod queue;
 pub use groups::Call;
 pub use item::{Event, Facts, Item, Took, Unread};
 pub use job::Job;
-pub use laws::least_is_contained;
+pub use laws::{least_is_contained, run_laws};
 pub use loaded::Loaded;
 pub use loading::Core;
 pub use member::Member;

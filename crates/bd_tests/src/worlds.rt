@@ -4,7 +4,7 @@ ghost use Rattle.bd_core.specs.Told.{Fits};
 ghost use Rattle.bd_core.specs.Loading.{IsKept};
 
 use crate::tables::{bytes_of, rows};
-use bd_core::{Core, Facts, Item, Member, Took, least_is_contained};
+use bd_core::{Core, Facts, Item, Member, Took, least_is_contained, run_laws};
 use bd_scan::scan;
 use cf_class::read_class;
 use jv_base::{MethodId, Name};
@@ -272,6 +272,7 @@ fn the_least_sets_of_small_worlds_are_found(rt: HostRuntime) {
     lists(&rt, &[T_ALONE], ("T", "e"), WITHOUT_A);
     lists(&rt, &[START, SQUARE, SHAPE, ROUND], ("Start", "run"), RUNS);
     least_is_contained();
+    run_laws();
 }
 
 #[test]
