@@ -38,7 +38,7 @@ module _ (classes : List ClassFile) where
   class_of (object name) other = name
   class_of (base letter) other = other
 
-  same_class : (a b : List ℕ) → object a ≡ object b → a ≡ b
+  pub same_class : (a b : List ℕ) → object a ≡ object b → a ≡ b
   unfolding class_of
   same_class a b e = ap (λ x. class_of x a) e
 

@@ -8,3 +8,5 @@ pub mod AddLemmas
 pub mod MadeLemmas
 pub mod BelowLemmas
 pub mod FieldLemmas
+pub mod OnceLemmas
+pub mod ClassLemmas

@@ -9,8 +9,8 @@ use Rattle.std.proofs.lemmas.List.{append-nil, map-append}
 use Rattle.std.proofs.lemmas.List.Elements.{Contains-append_left, Contains-append_cases}
 use Rattle.indexmap.specs.IndexSet.{insert_key, insert_all}
 use Rattle.indexmap.proofs.CallerLemmas.{Contains-insert_key, Drains-YieldsInOrder}
-use Rattle.jv_list.proofs.MemberLemmas.{none_member, one_member, member_cases, first_member, later_member, in_map}
-use Rattle.jv_list.proofs.MemberLemmas.{from_map}
+use Rattle.jv_list.proofs.MemberLemmas.{none_member, one_member, member_cases, first_member, later_member}
+use Rattle.jv_list.proofs.MemberLemmas.{in_map, from_map}
 use Rattle.hi_inputs.specs.Calls.Sets.{Takes}
 
 module _ {A : Type 0} where
@@ -45,7 +45,8 @@ module _ {A : Type 0} where
     takes_one old item = by (list_any (eq item) old) refl
       where
         there : (x : A) → Contains (item ∷ []) x → Contains (insert_key eq old item) x
-        there x h = subst (Contains (insert_key eq old item)) (one_member item x h)
+        there x h =
+            subst (Contains (insert_key eq old item)) (one_member item x h)
             (Contains-insert_key eq same old item)
 
         by : (b : Bool) → list_any (eq item) old ≡ b → Takes old (item ∷ []) (insert_key eq old item)

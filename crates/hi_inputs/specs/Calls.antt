@@ -3,3 +3,4 @@ pub mod Flat
 pub mod Sets
 pub mod First
 pub mod Below
+pub mod Made

@@ -3,11 +3,13 @@
 
 mod above;
 mod below;
+mod classes;
 mod fields;
 mod first;
 mod flat;
 mod made;
 mod types;
 
+pub use classes::input_classes;
 pub use made::is_made;
 pub use types::input_types;

@@ -1,7 +1,7 @@
 // The types that stand in inputs, found level by level: each is followed once.
 ghost use Rattle.std.specs.Prelude.{◌≡◌, ◌<◌, length, map, IfOk, OnOk};
 ghost use Rattle.jv_base.specs.Types.{field_of};
-ghost use Rattle.hi_inputs.specs.Types.{AreInputTypes, AreStanding};
+ghost use Rattle.hi_inputs.specs.Types.{AreInputTypes, AreOnce, AreStanding};
 ghost use Rattle.hi_inputs.specs.Calls.Flat.{field_of_flat};
 ghost use Rattle.hi_inputs.specs.Calls.Below.{IsBelow};
 ghost use Rattle.hi_inputs.specs.Calls.Sets.{Follows, Deepens};
@@ -41,7 +41,7 @@ fn deepen(alloc: Global, classes: &Classes, found: &mut IndexSet<FlatType>, from
     Ok(())
 }
 
-fn standing(
+pub(crate) fn standing(
     alloc: Global,
     classes: &Classes,
     entry: &MethodId,
@@ -77,7 +77,8 @@ fn nested_types(alloc: Global, flat: &[FlatType]) -> Mem<List<Ty>>
 
 /// The types that stand in the inputs of an entry method, each once, at a depth of at most `depth`.
 pub fn input_types(alloc: Global, classes: &Classes, entry: &MethodId, depth: u8) -> Mem<List<Ty>>
-    ensures { IfOk result (AreInputTypes classes.now entry.now depth) }
+    ensures value { IfOk result (AreInputTypes classes.now entry.now depth) }
+    ensures once { IfOk result (λ types. AreOnce (map field_of types)) }
 {
     let found = standing(alloc, classes, entry, depth)?;
     nested_types(alloc, found.as_slice())

@@ -1,9 +1,10 @@
 // Which types stand in the inputs of entry methods. A class has a row `KIND NAME | SUPERCLASS | FIELDS | METHODS`, each
 // field by its descriptor, behind `static:` where it is static, and each method as name and descriptor, so too. A question
-// is the entry and the depth; behind its bar are the types, as descriptors.
+// is the entry and the depth; behind its bar are the types, as descriptors. Behind `classes` it has the classes of the
+// objects, in order.
 use crate::worlds::{cell, class_of, name_of, put, reference};
 use cf_class::{ClassFile, Member, Named};
-use hi_inputs::{input_types, is_made};
+use hi_inputs::{input_classes, input_types, is_made};
 use hi_tree::Classes;
 use jv_base::{List, field_type_text};
 use std::process::Abort;
@@ -34,6 +35,11 @@ const CASES: &str = "
     Node.f(LNode;)V 255 | LNode; LShape; [[F [F F
     Node.g([LFace;)V 3 | [LFace; LFace;
     Node.g(Ljava/lang/String;LLost;)V 3 | Ljava/lang/String; LLost;
+    classes Node.f(LNode;)V 1 | Node
+    classes Node.f(LNode;)V 2 | Node
+    classes Node.f(LNode;LBase;LShape;)V 1 | Base Node
+    classes Node.g([LNode;)V 1 |
+    classes Node.g([LNode;Ljava/lang/String;LLost;)V 2 | Node
     made Node | yes
     made Base | yes
     made Shape | no
@@ -49,6 +55,9 @@ const CASES: &str = "
     A.f(LA;)V 2 | LA; LC; I
     A.f(LA;)V 3 | LA; LC; I J
     java/lang/String.run()V 3 | Ljava/lang/String;
+    classes A.f(LA;)V 2 | A C
+    classes A.f(LB;LC;)V 1 | B C
+    classes A.f(LC;LB;)V 2 | B C
     made java/lang/String | no
     made C | yes
 ";
@@ -125,14 +134,38 @@ fn are_types<R: Abort + AllocGlobal>(
     types.length() == expected.split_whitespace().count()
 }
 
+/// Whether the classes are those of a cell, in its order.
+fn are_classes<R: Abort + AllocGlobal>(
+    rt: &R,
+    classes: &Classes,
+    question: &str,
+    expected: &str,
+) -> bool {
+    let (entry, depth) = question.split_once(' ').expect(rt, "an entry and a depth");
+    let depth: u8 = depth.parse().expect(rt, "a depth");
+    let names = input_classes(rt.alloc(), classes, &reference(rt, entry), depth);
+    let names = names.expect(rt, "memory");
+    let mut told = String::new(rt.alloc());
+    for name in names.as_slice() {
+        if !told.is_empty() {
+            told.push(' ').expect(rt, "memory");
+        }
+        told.push_str(name.as_str()).expect(rt, "memory");
+    }
+    told.as_str() == expected
+}
+
 fn is_answer<R: Abort + AllocGlobal>(
     rt: &R,
     classes: &Classes,
     question: &str,
     expected: &str,
 ) -> bool {
-    match question.strip_prefix("made ") {
-        Some(name) => is_made(classes, &name_of(rt, name)) == (expected == "yes"),
+    if let Some(name) = question.strip_prefix("made ") {
+        return is_made(classes, &name_of(rt, name)) == (expected == "yes");
+    }
+    match question.strip_prefix("classes ") {
+        Some(question) => are_classes(rt, classes, question, expected),
         None => are_types(rt, classes, question, expected),
     }
 }
@@ -151,4 +184,41 @@ fn inputs_have_types_as_deep_as_is_asked(rt: HostRuntime) {
             assert!(&rt; is_answer(&rt, &classes, question, expected), "{row}");
         }
     }
+}
+
+/// Each class extends the one before it, and has a field of its type.
+fn chain<R: Abort + AllocGlobal>(rt: &R, count: u32) -> Classes {
+    let alloc = rt.alloc();
+    let mut classes = Classes::new(alloc);
+    for number in 1..count {
+        let name = format!(in alloc; "C{number}").expect(rt, "memory");
+        let above = format!(in alloc; "C{}", number - 1).expect(rt, "memory");
+        let field = format!(in alloc; "LC{};", number - 1).expect(rt, "memory");
+        let mut class = class_of(rt, name.as_str(), "class", above.as_str(), "", "");
+        put_members(rt, &mut class, field.as_str(), "");
+        put(rt, &mut classes, class);
+    }
+    classes
+}
+
+#[test]
+fn a_chain_of_classes_has_a_type_for_each(rt: HostRuntime) {
+    let classes = chain(&rt, 2_000);
+    let entry = reference(&rt, "C0.f(LC1999;)V");
+    let types = input_types(rt.alloc(), &classes, &entry, 2).expect(&rt, "memory");
+    assert_eq!(&rt; types.length(), 2_000, "the argument, and a field of each");
+    let names = input_classes(rt.alloc(), &classes, &entry, 2).expect(&rt, "memory");
+    assert_eq!(&rt;
+        names.length(),
+        1_999,
+        "all but the first, which was not read"
+    );
+}
+
+#[test]
+fn types_that_were_met_are_not_followed_again(rt: HostRuntime) {
+    let classes = chain(&rt, 100);
+    let entry = reference(&rt, "C0.f(LC99;)V");
+    let types = input_types(rt.alloc(), &classes, &entry, 255).expect(&rt, "memory");
+    assert_eq!(&rt; types.length(), 100, "no more types are there");
 }
