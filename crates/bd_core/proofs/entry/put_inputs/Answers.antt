@@ -15,7 +15,7 @@ returns c =
     let types = c.in_ok-types.types in
     let are : AreInputTypes classes j.entry j.depth types =
     subst (λ (l : List ClassFile). AreInputTypes l j.entry j.depth types) c.classes.ensures
-        c.in_ok-types.ensures.value in
+    c.in_ok-types.ensures.value in
     let first : Adds (Each types OfType) c.args.out.now c.put_elements.new.out =
     subst (λ (l : List Ty). Adds (Each l OfType) c.args.out.now c.put_elements.new.out) c.as_slice.ensures
     (search rules) in
