@@ -10,6 +10,8 @@ mod classes;
 #[cfg(test)]
 mod codes;
 #[cfg(test)]
+mod copies;
+#[cfg(test)]
 mod descriptors;
 #[cfg(test)]
 mod entries;

@@ -44,7 +44,7 @@ fn a_file_of_hand_is_given_back(rt: HostRuntime) {
 
 // The changes of the file of javac.
 #[rattlefmt::skip]
-const CHANGES: &str = "
+pub(crate) const CHANGES: &str = "
     4:00ff002d
     // a Code in the class, of a content that is none: it does not count
     294:00010014000000030a0b0c
@@ -61,7 +61,7 @@ fn the_file_of_javac_is_given_back(rt: HostRuntime) {
 }
 
 // The code of a method of a class whose pool has each kind of entry, and the rows of its exception table.
-const CODES: &str = "
+pub(crate) const CODES: &str = "
     b1 |
     b1 | 0000000100000002
     000000b1 | 00000001000300020001000200030000
