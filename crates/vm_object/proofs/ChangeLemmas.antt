@@ -1,0 +1,244 @@
+-- What instructions on arrays change of the heap.
+use Rattle.std.proofs.Common.{◌≡◌, ◌≢◌, ℕ, ◌+◌, ◌-◌, ℤ, pos, Bool, true, false, if◌then◌else◌, List, [], ◌∷◌, ◌++◌}
+use Rattle.std.proofs.Common.{length, replicate, Option, Some, None, Ok, refl, sym, ap, ◌∙◌, subst, arith, length-append, inl, inr}
+use Rattle.std.specs.Option.{option_map}
+use Rattle.std.proofs.lemmas.Bool.{cases_eq, cond-true}
+use Rattle.std.proofs.lemmas.Option.{same_Some, slice_get_within}
+use Rattle.jv_list.proofs.PlaceLemmas.{slice_get-set_same, slice_get-set_other, slice_get-push_last}
+use Rattle.jv_base.specs.declared.value.Value.{Value}
+use Rattle.jv_base.specs.declared.value.Value.TheVariants as values
+use Rattle.cf_code.specs.declared.array.Array.{Array}
+use Rattle.cf_code.specs.declared.array.Array.TheVariants.{Load, Store, New, NewOf, NewMany, Length}
+use Rattle.cf_code.specs.declared.array.Element.{Element}
+use Rattle.cf_code.specs.declared.array.Element.TheVariants as elements
+use Rattle.cf_code.specs.Kinds.{is_judged}
+use Rattle.vm_world.specs.declared.frame.Frame.{Frame}
+use Rattle.vm_world.specs.declared.object.Object.{Object}
+use Rattle.vm_world.specs.declared.object.Object.TheVariants.{Instance, Array as ArrayObject, Text}
+use Rattle.vm_world.specs.Heap.{object_at, of_object, element_at, changed}
+use Rattle.vm_world.specs.Objects.{element_of, with_element}
+use Rattle.vm_world.specs.Laws.{ChangesOne, ChangesNoOther, NewIsLast, NewKeepsOthers}
+use Rattle.vm_frame.specs.Operands.{top, without}
+use Rattle.vm_object.specs.declared.element.ElementType.{ElementType}
+use Rattle.vm_object.specs.declared.operand.StoreOperands.{StoreOperands}
+use Rattle.vm_object.specs.declared.effect.ArrayEffect.{ArrayEffect}
+use Rattle.vm_object.specs.declared.effect.ArrayEffect.TheVariants.{Gives, Makes, Puts, Raises, Sticks, Leaves}
+use Rattle.vm_object.specs.declared.effect.ArrayWent.TheVariants.{Next}
+use Rattle.vm_object.specs.declared.step.Known.{Known}
+use Rattle.vm_object.specs.ElementTypes.{holds, narrowed_int, narrowed, type_text}
+use Rattle.vm_object.specs.Operands.{reference_and_int, store_operands}
+use Rattle.vm_object.specs.Places.{descriptor_of, element_descriptor, taken, or_sticks, array_for, element_in}
+use Rattle.vm_object.specs.Loads.{loaded, loaded_from, load_given, load_effect}
+use Rattle.vm_object.specs.NewArrays.{make_effect}
+use Rattle.vm_object.specs.Laws.{named}
+use Rattle.vm_object.specs.Effects.{done}
+use Rattle.vm_object.specs.Steps.{array_effect}
+use Rattle.vm_object.proofs.EffectLemmas.{Reads, MakesNamed, make_makes}
+use Rattle.vm_object.proofs.StoreLemmas.{Written, Writes, store_writes}
+
+-- ---- reads
+
+pub read_keeps : (array : Array) (next : ℕ) (frame : Frame) (heap : List Object) (effect : ArrayEffect)
+    → Reads array effect → (done next effect frame heap).2 ≡ heap
+read_keeps array next frame heap (Gives n v) h = refl
+read_keeps array next frame heap (Makes descriptor n v) h = absurd h
+read_keeps array next frame heap (Puts number place v) h = absurd h
+read_keeps array next frame heap (Raises kind) h = refl
+read_keeps array next frame heap Sticks h = refl
+read_keeps array next frame heap Leaves h = refl
+
+-- ---- a new array
+
+abbrev pub Added : List ℕ → List Value → List Object → List Object → Type 0
+Added descriptor stack heap after =
+    (top stack ≡ Some (values.Ref (Some (length heap + 1))))
+    × (element_descriptor after (length heap + 1) ≡ Some descriptor)
+    × ((number : ℕ) → number ≢ length heap + 1 → object_at after number ≡ object_at heap number)
+
+pushed : {X : Type 0} (xs : List X) (x : X) → top (xs ++ x ∷ []) ≡ Some x
+pushed xs x = slice_get-push_last xs x (length (xs ++ x ∷ []) - 1) (omega (arith, length-append xs (x ∷ [])))
+
+module _ (last : NewIsLast) (others : NewKeepsOthers) (next : ℕ) (frame : Frame) (heap : List Object) where
+  pub new_is_next : (wanted : Option (List ℕ)) (descriptor : List ℕ) (effect : ArrayEffect)
+      → MakesNamed wanted frame.stack effect → wanted ≡ Some descriptor → (done next effect frame heap).0 ≡ Next
+      → Added descriptor (done next effect frame heap).1.stack heap (done next effect frame heap).2
+  new_is_next wanted descriptor (Gives n v) h is e = absurd h
+  new_is_next wanted descriptor (Makes made n v) h is e =
+      let same : made ≡ descriptor = same_Some made descriptor (sym h.0 ∙ is) in (
+        pushed (without 1 frame.stack) (values.Ref (Some (length heap + 1))),
+        ap (of_object descriptor_of) (last heap (ArrayObject made (replicate n v))) ∙ ap (λ (d : List ℕ). Some d) same,
+        others heap (ArrayObject made (replicate n v)),
+      )
+  new_is_next wanted descriptor (Puts number place v) h is e = absurd h
+  new_is_next wanted descriptor (Raises kind) h is e = absurd cc
+  new_is_next wanted descriptor Sticks h is e = absurd cc
+  new_is_next wanted descriptor Leaves h is e = absurd cc
+
+  -- by the instruction that names the type
+  pub named_is_next : (known : Known) (descriptor : List ℕ) (array : Array) → named array known ≡ Some descriptor
+      → (done next (array_effect array known frame.stack heap) frame heap).0 ≡ Next
+      → Added descriptor (done next (array_effect array known frame.stack heap) frame heap).1.stack heap
+      (done next (array_effect array known frame.stack heap) frame heap).2
+  named_is_next known descriptor (Load e) is went = absurd cc
+  named_is_next known descriptor (Store e) is went = absurd cc
+  named_is_next known descriptor (New code) is went =
+      new_is_next (type_text code) descriptor (make_effect (type_text code) known.bound frame.stack)
+      (make_makes (type_text code) known.bound frame.stack) is went
+  named_is_next known descriptor (NewOf index) is went =
+      new_is_next known.element descriptor (make_effect known.element known.bound frame.stack)
+      (make_makes known.element known.bound frame.stack) is went
+  named_is_next known descriptor (NewMany index dimensions) is went = absurd cc
+  named_is_next known descriptor Length is went = absurd cc
+
+-- ---- an element that was stored
+
+-- the element at another place, and the element type, stay
+other_element : (place stored : ℕ) (v : Value) (o : Option Object) → place ≢ stored
+    → of_object (λ object. element_of object place) (option_map (λ object. with_element object stored v) o)
+    ≡ of_object (λ object. element_of object place) o
+other_element place stored v None ne = refl
+other_element place stored v (Some (Instance class fields)) ne = refl
+other_element place stored v (Some (ArrayObject descriptor elements)) ne =
+    slice_get-set_other elements stored place v ne
+other_element place stored v (Some (Text kind units)) ne = refl
+
+same_type : (stored : ℕ) (v : Value) (o : Option Object)
+    → of_object descriptor_of (option_map (λ object. with_element object stored v) o) ≡ of_object descriptor_of o
+same_type stored v None = refl
+same_type stored v (Some (Instance class fields)) = refl
+same_type stored v (Some (ArrayObject descriptor elements)) = refl
+same_type stored v (Some (Text kind units)) = refl
+
+-- and the element at the place is what was stored
+one_element : (place : ℕ) (v old : Value) (o : Option Object)
+    → of_object (λ object. element_of object place) o ≡ Some old
+    → of_object (λ object. element_of object place) (option_map (λ object. with_element object place v) o) ≡ Some v
+one_element place v old None there = absurd cc
+one_element place v old (Some (Instance class fields)) there = absurd cc
+one_element place v old (Some (ArrayObject descriptor elements)) there =
+    slice_get-set_same elements place v (slice_get_within elements place old there)
+one_element place v old (Some (Text kind units)) there = absurd cc
+
+-- what is kept of a value has its type
+same_int : (e : Element) (m n : ℤ) → holds e (values.Int m) ≡ holds e (values.Int n)
+same_int elements.Int m n = refl
+same_int elements.Long m n = refl
+same_int elements.Float m n = refl
+same_int elements.Double m n = refl
+same_int elements.Reference m n = refl
+same_int elements.Byte m n = refl
+same_int elements.Char m n = refl
+same_int elements.Short m n = refl
+
+narrowed_holds : (e : Element) (held : ElementType) (v : Value) → holds e (narrowed held v) ≡ holds e v
+narrowed_holds e held (values.Int n) = same_int e (narrowed_int held n) n
+narrowed_holds e held (values.Long n) = refl
+narrowed_holds e held (values.Ref r) = refl
+
+module _ (one : ChangesOne) (no_other : ChangesNoOther) (heap : List Object) (number stored : ℕ) (v : Value) where
+  abbrev after : List Object
+  after = changed heap number (λ object. with_element object stored v)
+
+  elements_kept : (n place : ℕ) → place ≢ stored → element_at after n place ≡ element_at heap n place
+  elements_kept n place ne = elim (cases_eq n number) [
+    | inl same ↦
+      subst (λ (k : ℕ). element_at after k place ≡ element_at heap k place) (sym same)
+      (ap (of_object (λ object. element_of object place)) (one heap number (λ object. with_element object stored v))
+      ∙ other_element place stored v (object_at heap number) ne)
+    | inr other ↦
+      ap (of_object (λ object. element_of object place))
+      (no_other heap number n (λ object. with_element object stored v) other)
+  ]
+
+  types_kept : (n : ℕ) → element_descriptor after n ≡ element_descriptor heap n
+  types_kept n = elim (cases_eq n number) [
+    | inl same ↦
+      subst (λ (k : ℕ). element_descriptor after k ≡ element_descriptor heap k) (sym same)
+      (ap (of_object descriptor_of) (one heap number (λ object. with_element object stored v))
+      ∙ same_type stored v (object_at heap number))
+    | inr other ↦
+      ap (of_object descriptor_of) (no_other heap number n (λ object. with_element object stored v) other)
+  ]
+
+  element_kept : (old : Value) → element_at heap number stored ≡ Some old → element_at after number stored ≡ Some v
+  element_kept old there =
+      ap (of_object (λ object. element_of object stored)) (one heap number (λ object. with_element object stored v))
+      ∙ one_element stored v old (object_at heap number) there
+
+  -- ---- what a load gives after a store
+
+  loaded_after : (e : Element) (stack over : List Value) (w : Written e stack heap number stored v)
+      → reference_and_int over ≡ Some (w.operands.array, w.operands.index)
+      → load_effect e over after ≡ Gives 2 (narrowed w.held w.operands.value)
+  loaded_after e stack over w given =
+      let kept : Value = narrowed w.held w.operands.value in
+      cond-true (is_judged e) (load_given e after (reference_and_int over)) Sticks w.judged
+      ∙ ap (load_given e after) given
+      ∙ ap (λ (r : Option ℕ). loaded_from e after w.operands.index (array_for after e r)) w.array
+      ∙ ap (λ (t : Option ElementType). loaded_from e after w.operands.index (or_sticks number t))
+      (ap (taken e) (types_kept number) ∙ w.type_is)
+      ∙ ap (λ (z : ℤ). loaded e (element_in after number z)) w.index
+      ∙ ap (loaded e) (element_kept w.old w.there)
+      ∙ ap (λ (u : Value). loaded e (Some u)) w.kept
+      ∙ cond-true (holds e kept) (Gives 2 kept) Sticks (narrowed_holds e w.held w.operands.value ∙ w.fits)
+
+-- ---- the laws of stores
+
+module _ (one : ChangesOne) (no_other : ChangesNoOther) (e : Element) (next : ℕ) (frame : Frame) (heap : List Object)
+    (operands : StoreOperands) (read : store_operands frame.stack ≡ Some operands) where
+  same_operands : {number place : ℕ} {v : Value} (w : Written e frame.stack heap number place v)
+      → w.operands ≡ operands
+  same_operands w = same_Some w.operands operands (sym w.read ∙ read)
+
+  pub store_keeps_others : (effect : ArrayEffect) → Writes e frame.stack heap effect → (other : ℕ)
+      → operands.array ≢ Some other → object_at (done next effect frame heap).2 other ≡ object_at heap other
+  store_keeps_others (Gives n v) w other ne = refl
+  store_keeps_others (Makes descriptor n v) w other ne = absurd w
+  store_keeps_others (Puts number place v) w other ne =
+      let same : w.operands ≡ operands = same_operands w in
+      no_other heap number other (λ object. with_element object place v)
+      (λ (is : other ≡ number).
+      ne (ap (λ (o : StoreOperands). o.array) (sym same) ∙ w.array ∙ ap (λ (n : ℕ). Some n) (sym is)))
+  store_keeps_others (Raises kind) w other ne = refl
+  store_keeps_others Sticks w other ne = refl
+  store_keeps_others Leaves w other ne = refl
+
+  pub store_keeps_elements : (effect : ArrayEffect) → Writes e frame.stack heap effect → (number place : ℕ)
+      → operands.index ≢ pos place
+      → (element_at (done next effect frame heap).2 number place ≡ element_at heap number place)
+      × (element_descriptor (done next effect frame heap).2 number ≡ element_descriptor heap number)
+  store_keeps_elements (Gives n v) w number place ne = (refl, refl)
+  store_keeps_elements (Makes descriptor n v) w number place ne = absurd w
+  store_keeps_elements (Puts array stored v) w number place ne =
+      let same : w.operands ≡ operands = same_operands w in (
+        elements_kept one no_other heap array stored v number place
+        (λ (is : place ≡ stored).
+        ne (ap (λ (o : StoreOperands). o.index) (sym same) ∙ w.index ∙ ap (λ (n : ℕ). pos n) (sym is))),
+        types_kept one no_other heap array stored v number,
+      )
+  store_keeps_elements (Raises kind) w number place ne = (refl, refl)
+  store_keeps_elements Sticks w number place ne = (refl, refl)
+  store_keeps_elements Leaves w number place ne = (refl, refl)
+
+  module _ (number : ℕ) (held : ElementType) (over : List Value) (array : operands.array ≡ Some number)
+      (type_is : taken e (element_descriptor heap number) ≡ Some held)
+      (given : reference_and_int over ≡ Some (operands.array, operands.index)) where
+    pub store_is_loaded : (effect : ArrayEffect) → Writes e frame.stack heap effect
+        → (done next effect frame heap).0 ≡ Next
+        → load_effect e over (done next effect frame heap).2 ≡ Gives 2 (narrowed held operands.value)
+    store_is_loaded (Gives n v) w went = absurd w
+    store_is_loaded (Makes descriptor n v) w went = absurd w
+    store_is_loaded (Puts n place v) w went =
+        let same : w.operands ≡ operands = same_operands w in
+        let one_array : n ≡ number =
+        same_Some n number (sym w.array ∙ ap (λ (o : StoreOperands). o.array) same ∙ array) in
+        let one_type : w.held ≡ held =
+        same_Some w.held held
+        (sym w.type_is ∙ ap (λ (k : ℕ). taken e (element_descriptor heap k)) one_array ∙ type_is) in
+        loaded_after one no_other heap n place v e frame.stack over w
+        (given ∙ ap (λ (o : StoreOperands). Some (o.array, o.index)) (sym same))
+        ∙ ap (λ (h : ElementType). Gives 2 (narrowed h w.operands.value)) one_type
+        ∙ ap (λ (o : StoreOperands). Gives 2 (narrowed held o.value)) same
+    store_is_loaded (Raises kind) w went = absurd cc
+    store_is_loaded Sticks w went = absurd cc
+    store_is_loaded Leaves w went = absurd cc
