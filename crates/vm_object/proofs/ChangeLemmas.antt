@@ -1,6 +1,7 @@
 -- What instructions on arrays change of the heap.
-use Rattle.std.proofs.Common.{◌≡◌, ◌≢◌, ℕ, ◌+◌, ◌-◌, ℤ, pos, Bool, true, false, if◌then◌else◌, List, [], ◌∷◌, ◌++◌}
-use Rattle.std.proofs.Common.{length, replicate, Option, Some, None, Ok, refl, sym, ap, ◌∙◌, subst, arith, length-append, inl, inr}
+use Rattle.std.proofs.Common.{◌≡◌, ◌≢◌, ℕ, ◌+◌, ◌-◌, ℤ, pos, List, [], ◌∷◌, ◌++◌}
+use Rattle.std.proofs.Common.{length, replicate, Option, Some, None, refl, sym, ap, ◌∙◌, subst, arith}
+use Rattle.std.proofs.Common.{length-append, inl, inr}
 use Rattle.std.specs.Option.{option_map}
 use Rattle.std.proofs.lemmas.Bool.{cases_eq, cond-true}
 use Rattle.std.proofs.lemmas.Option.{same_Some, slice_get_within}
@@ -24,7 +25,7 @@ use Rattle.vm_object.specs.declared.operand.StoreOperands.{StoreOperands}
 use Rattle.vm_object.specs.declared.effect.ArrayEffect.{ArrayEffect}
 use Rattle.vm_object.specs.declared.effect.ArrayEffect.TheVariants.{Gives, Makes, Puts, Raises, Sticks, Leaves}
 use Rattle.vm_object.specs.declared.effect.ArrayWent.TheVariants.{Next}
-use Rattle.vm_object.specs.declared.step.Known.{Known}
+use Rattle.vm_object.specs.declared.step.Setting.{Setting}
 use Rattle.vm_object.specs.ElementTypes.{holds, narrowed_int, narrowed, type_text}
 use Rattle.vm_object.specs.Operands.{reference_and_int, store_operands}
 use Rattle.vm_object.specs.Places.{descriptor_of, element_descriptor, taken, or_sticks, array_for, element_in}
@@ -34,7 +35,7 @@ use Rattle.vm_object.specs.Laws.{named}
 use Rattle.vm_object.specs.Effects.{done}
 use Rattle.vm_object.specs.Steps.{array_effect}
 use Rattle.vm_object.proofs.EffectLemmas.{Reads, MakesNamed, make_makes}
-use Rattle.vm_object.proofs.StoreLemmas.{Written, Writes, store_writes}
+use Rattle.vm_object.proofs.StoreLemmas.{Written, Writes}
 
 -- ---- reads
 
@@ -75,20 +76,20 @@ module _ (last : NewIsLast) (others : NewKeepsOthers) (next : ℕ) (frame : Fram
   new_is_next wanted descriptor Leaves h is e = absurd cc
 
   -- by the instruction that names the type
-  pub named_is_next : (known : Known) (descriptor : List ℕ) (array : Array) → named array known ≡ Some descriptor
-      → (done next (array_effect array known frame.stack heap) frame heap).0 ≡ Next
-      → Added descriptor (done next (array_effect array known frame.stack heap) frame heap).1.stack heap
-      (done next (array_effect array known frame.stack heap) frame heap).2
-  named_is_next known descriptor (Load e) is went = absurd cc
-  named_is_next known descriptor (Store e) is went = absurd cc
-  named_is_next known descriptor (New code) is went =
-      new_is_next (type_text code) descriptor (make_effect (type_text code) known.bound frame.stack)
-      (make_makes (type_text code) known.bound frame.stack) is went
-  named_is_next known descriptor (NewOf index) is went =
-      new_is_next known.element descriptor (make_effect known.element known.bound frame.stack)
-      (make_makes known.element known.bound frame.stack) is went
-  named_is_next known descriptor (NewMany index dimensions) is went = absurd cc
-  named_is_next known descriptor Length is went = absurd cc
+  pub named_is_next : (setting : Setting) (descriptor : List ℕ) (array : Array) → named array setting ≡ Some descriptor
+      → (done next (array_effect array setting frame.stack heap) frame heap).0 ≡ Next
+      → Added descriptor (done next (array_effect array setting frame.stack heap) frame heap).1.stack heap
+      (done next (array_effect array setting frame.stack heap) frame heap).2
+  named_is_next setting descriptor (Load e) is went = absurd cc
+  named_is_next setting descriptor (Store e) is went = absurd cc
+  named_is_next setting descriptor (New code) is went =
+      new_is_next (type_text code) descriptor (make_effect (type_text code) setting.bound frame.stack)
+      (make_makes (type_text code) setting.bound frame.stack) is went
+  named_is_next setting descriptor (NewOf index) is went =
+      new_is_next setting.element descriptor (make_effect setting.element setting.bound frame.stack)
+      (make_makes setting.element setting.bound frame.stack) is went
+  named_is_next setting descriptor (NewMany index dimensions) is went = absurd cc
+  named_is_next setting descriptor Length is went = absurd cc
 
 -- ---- an element that was stored
 
@@ -142,22 +143,22 @@ module _ (one : ChangesOne) (no_other : ChangesNoOther) (heap : List Object) (nu
   elements_kept : (n place : ℕ) → place ≢ stored → element_at after n place ≡ element_at heap n place
   elements_kept n place ne = elim (cases_eq n number) [
     | inl same ↦
-      subst (λ (k : ℕ). element_at after k place ≡ element_at heap k place) (sym same)
-      (ap (of_object (λ object. element_of object place)) (one heap number (λ object. with_element object stored v))
-      ∙ other_element place stored v (object_at heap number) ne)
+        subst (λ (k : ℕ). element_at after k place ≡ element_at heap k place) (sym same)
+        (ap (of_object (λ object. element_of object place)) (one heap number (λ object. with_element object stored v))
+        ∙ other_element place stored v (object_at heap number) ne)
     | inr other ↦
-      ap (of_object (λ object. element_of object place))
-      (no_other heap number n (λ object. with_element object stored v) other)
+        ap (of_object (λ object. element_of object place))
+        (no_other heap number n (λ object. with_element object stored v) other)
   ]
 
   types_kept : (n : ℕ) → element_descriptor after n ≡ element_descriptor heap n
   types_kept n = elim (cases_eq n number) [
     | inl same ↦
-      subst (λ (k : ℕ). element_descriptor after k ≡ element_descriptor heap k) (sym same)
-      (ap (of_object descriptor_of) (one heap number (λ object. with_element object stored v))
-      ∙ same_type stored v (object_at heap number))
+        subst (λ (k : ℕ). element_descriptor after k ≡ element_descriptor heap k) (sym same)
+        (ap (of_object descriptor_of) (one heap number (λ object. with_element object stored v))
+        ∙ same_type stored v (object_at heap number))
     | inr other ↦
-      ap (of_object descriptor_of) (no_other heap number n (λ object. with_element object stored v) other)
+        ap (of_object descriptor_of) (no_other heap number n (λ object. with_element object stored v) other)
   ]
 
   element_kept : (old : Value) → element_at heap number stored ≡ Some old → element_at after number stored ≡ Some v
@@ -212,8 +213,8 @@ module _ (one : ChangesOne) (no_other : ChangesNoOther) (e : Element) (next : �
   store_keeps_elements (Puts array stored v) w number place ne =
       let same : w.operands ≡ operands = same_operands w in (
         elements_kept one no_other heap array stored v number place
-        (λ (is : place ≡ stored).
-        ne (ap (λ (o : StoreOperands). o.index) (sym same) ∙ w.index ∙ ap (λ (n : ℕ). pos n) (sym is))),
+            (λ (is : place ≡ stored).
+            ne (ap (λ (o : StoreOperands). o.index) (sym same) ∙ w.index ∙ ap (λ (n : ℕ). pos n) (sym is))),
         types_kept one no_other heap array stored v number,
       )
   store_keeps_elements (Raises kind) w number place ne = (refl, refl)

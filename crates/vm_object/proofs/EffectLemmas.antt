@@ -2,12 +2,11 @@
 use Rattle.std.proofs.Common.{◌≡◌, ℕ, ◌<◌, ℤ, pos, negsuc, Bool, true, false, if◌then◌else◌, List, [], ◌∷◌, length}
 use Rattle.std.proofs.Common.{Option, Some, None, refl, arith}
 use Rattle.std.specs.Prelude.{nat_le, nat_lt, ◌^◌}
-use Rattle.jv_base.specs.declared.method.Kind.{Kind}
 use Rattle.jv_base.specs.declared.method.Kind.TheVariants.{Null, Bounds, NegSize}
 use Rattle.jv_base.specs.declared.value.Value.{Value}
 use Rattle.jv_base.specs.declared.value.Value.TheVariants as values
 use Rattle.cf_code.specs.declared.array.Array.{Array}
-use Rattle.cf_code.specs.declared.array.Array.TheVariants.{Load, Store, New, NewOf, NewMany, Length}
+use Rattle.cf_code.specs.declared.array.Array.TheVariants.{Load, Store, Length}
 use Rattle.cf_code.specs.declared.array.Element.{Element}
 use Rattle.cf_code.specs.declared.array.Element.TheVariants.{Int, Long, Float, Double, Reference, Byte, Char, Short}
 use Rattle.cf_code.specs.Kinds.{is_judged, array_raises}
@@ -22,7 +21,7 @@ use Rattle.vm_object.specs.ElementTypes.{element_type, holds, default_value}
 use Rattle.vm_object.specs.Operands.{reference_and_int}
 use Rattle.vm_object.specs.Places.{or_sticks, array_for, taken, element_descriptor, element_in}
 use Rattle.vm_object.specs.Loads.{loaded, loaded_from, load_given, load_effect}
-use Rattle.vm_object.specs.Lengths.{counted, length_of, length_found, length_given, length_effect}
+use Rattle.vm_object.specs.Lengths.{counted, length_found, length_given, length_effect}
 use Rattle.vm_object.specs.NewArrays.{made, made_given, made_typed, make_effect}
 
 -- what holds of both cases holds of the choice

@@ -1,5 +1,5 @@
 -- The laws of all instructions on arrays, from what their effects are.
-use Rattle.std.proofs.Common.{◌≡◌, ◌≢◌, ℕ, ◌<◌, Bool, true, List, length, Option, Some, None, refl, sym, subst}
+use Rattle.std.proofs.Common.{◌≡◌, ◌≢◌, ℕ, ◌<◌, true, List, length, Option, refl, sym, subst}
 use Rattle.jv_base.specs.declared.method.Kind.{Kind}
 use Rattle.jv_base.specs.declared.method.Kind.TheVariants.{NegSize}
 use Rattle.jv_base.specs.declared.value.Value.{Value}
@@ -13,7 +13,7 @@ use Rattle.vm_world.specs.declared.object.Object.{Object}
 use Rattle.vm_object.specs.declared.effect.ArrayEffect.{ArrayEffect}
 use Rattle.vm_object.specs.declared.effect.ArrayEffect.TheVariants.{Gives, Makes, Puts, Raises, Sticks, Leaves}
 use Rattle.vm_object.specs.declared.effect.ArrayWent.TheVariants.{Next, Raised}
-use Rattle.vm_object.specs.declared.step.Known.{Known}
+use Rattle.vm_object.specs.declared.step.Setting.{Setting}
 use Rattle.vm_object.specs.Calls.Suits.{Suits}
 use Rattle.vm_object.specs.ElementTypes.{type_text}
 use Rattle.vm_object.specs.Loads.{load_effect}
@@ -34,7 +34,8 @@ Meets array stack (Raises kind) = array_raises array kind ≡ true
 Meets array stack Sticks = Unit {0}
 Meets array stack Leaves = Unit {0}
 
-meets_reads : (array : Array) (stack : List Value) (effect : ArrayEffect) → Reads array effect → Meets array stack effect
+meets_reads : (array : Array) (stack : List Value) (effect : ArrayEffect) → Reads array effect
+    → Meets array stack effect
 meets_reads array stack (Gives n v) h = tt
 meets_reads array stack (Makes descriptor n v) h = absurd h
 meets_reads array stack (Puts number place v) h = tt
@@ -61,17 +62,17 @@ meets_makes array named stack (Raises kind) negsize h =
 meets_makes array named stack Sticks negsize h = tt
 meets_makes array named stack Leaves negsize h = tt
 
-module _ (known : Known) (stack : List Value) (heap : List Object) where
-  pub effect_meets : (array : Array) → Meets array stack (array_effect array known stack heap)
+module _ (setting : Setting) (stack : List Value) (heap : List Object) where
+  pub effect_meets : (array : Array) → Meets array stack (array_effect array setting stack heap)
   effect_meets (Load e) = meets_reads (Load e) stack (load_effect e stack heap) (load_reads e stack heap)
   effect_meets (Store e) =
-      meets_writes e stack heap (store_effect e known.suits stack heap) (store_writes e known.suits stack heap)
+      meets_writes e stack heap (store_effect e setting.suits stack heap) (store_writes e setting.suits stack heap)
   effect_meets (New code) =
-      meets_makes (New code) (type_text code) stack (make_effect (type_text code) known.bound stack) refl
-      (make_makes (type_text code) known.bound stack)
+      meets_makes (New code) (type_text code) stack (make_effect (type_text code) setting.bound stack) refl
+      (make_makes (type_text code) setting.bound stack)
   effect_meets (NewOf index) =
-      meets_makes (NewOf index) known.element stack (make_effect known.element known.bound stack) refl
-      (make_makes known.element known.bound stack)
+      meets_makes (NewOf index) setting.element stack (make_effect setting.element setting.bound stack) refl
+      (make_makes setting.element setting.bound stack)
   effect_meets (NewMany index dimensions) = tt
   effect_meets Length = meets_reads Length stack (length_effect stack heap) (length_reads stack heap)
 
@@ -84,10 +85,11 @@ suits_if_meets array (Raises kind) frame h = tt
 suits_if_meets array Sticks frame h = tt
 suits_if_meets array Leaves frame h = tt
 
-pub effect_suits : (array : Array) (known : Known) (frame : Frame) (heap : List Object)
-    → Suits (array_effect array known frame.stack heap) frame
-effect_suits array known frame heap =
-    suits_if_meets array (array_effect array known frame.stack heap) frame (effect_meets known frame.stack heap array)
+pub effect_suits : (array : Array) (setting : Setting) (frame : Frame) (heap : List Object)
+    → Suits (array_effect array setting frame.stack heap) frame
+effect_suits array setting frame heap =
+    suits_if_meets array (array_effect array setting frame.stack heap) frame
+    (effect_meets setting frame.stack heap array)
 
 module _ (next : ℕ) (frame : Frame) (heap : List Object) where
   kind_is : (array : Array) (effect : ArrayEffect) (kind : Kind) → Meets array frame.stack effect
@@ -119,7 +121,8 @@ module _ (next : ℕ) (frame : Frame) (heap : List Object) where
   kept_by_refusal Leaves e = (refl, refl)
 
   pub locals_kept : (effect : ArrayEffect)
-      → ((done next effect frame heap).1.locals ≡ frame.locals) × ((done next effect frame heap).1.method ≡ frame.method)
+      → ((done next effect frame heap).1.locals ≡ frame.locals)
+      × ((done next effect frame heap).1.method ≡ frame.method)
       × ((done next effect frame heap).1.initialises ≡ frame.initialises)
   locals_kept (Gives n v) = (refl, refl, refl)
   locals_kept (Makes descriptor n v) = (refl, refl, refl)
@@ -128,8 +131,8 @@ module _ (next : ℕ) (frame : Frame) (heap : List Object) where
   locals_kept Sticks = (refl, refl, refl)
   locals_kept Leaves = (refl, refl, refl)
 
-  pub raises_its_kinds : (array : Array) (known : Known) (kind : Kind)
-      → (done next (array_effect array known frame.stack heap) frame heap).0 ≡ Raised kind
+  pub raises_its_kinds : (array : Array) (setting : Setting) (kind : Kind)
+      → (done next (array_effect array setting frame.stack heap) frame heap).0 ≡ Raised kind
       → raises (instrs.Array array) kind ≡ true
-  raises_its_kinds array known kind e =
-      kind_is array (array_effect array known frame.stack heap) kind (effect_meets known frame.stack heap array) e
+  raises_its_kinds array setting kind e =
+      kind_is array (array_effect array setting frame.stack heap) kind (effect_meets setting frame.stack heap array) e

@@ -1,12 +1,12 @@
 -- What the effect of a store is.
-use Rattle.std.proofs.Common.{◌≡◌, ℕ, ℤ, pos, negsuc, Bool, true, false, List, Option, Some, None, refl, sym, ap, ◌∙◌, subst}
+use Rattle.std.proofs.Common.{◌≡◌, ℕ, ℤ, pos, negsuc, Bool, true, false, List, Option, Some, None, refl, sym, ap, ◌∙◌}
 use Rattle.std.specs.Prelude.{unsigned_abs}
 use Rattle.jv_base.specs.declared.method.Kind.TheVariants.{Store as Stored}
 use Rattle.jv_base.specs.declared.value.Value.{Value}
 use Rattle.jv_base.specs.declared.value.Value.TheVariants as values
 use Rattle.cf_code.specs.declared.array.Array.TheVariants.{Store}
 use Rattle.cf_code.specs.declared.array.Element.{Element}
-use Rattle.cf_code.specs.declared.array.Element.TheVariants.{Int, Long, Float, Double, Reference, Byte, Char, Short}
+use Rattle.cf_code.specs.declared.array.Element.TheVariants.{Int, Long, Reference, Byte, Char, Short}
 use Rattle.cf_code.specs.Kinds.{is_judged, array_raises}
 use Rattle.vm_world.specs.declared.object.Object.{Object}
 use Rattle.vm_world.specs.Heap.{element_at}
@@ -57,14 +57,14 @@ refused e v suits fits fails = absurd cc
 module _ (e : Element) (suits : Bool) (stack : List Value) (heap : List Object) (operands : StoreOperands)
     (judged : is_judged e ≡ true) (read : store_operands stack ≡ Some operands)
     (fits : holds e operands.value ≡ true) where
-
   module _ (number : ℕ) (array : operands.array ≡ Some number) (held : ElementType)
       (type_is : taken e (element_descriptor heap number) ≡ Some held) where
     put_writes : (place : ℕ) (old : Value) → operands.index ≡ pos place → element_at heap number place ≡ Some old
         → Writes e stack heap (stored number operands.index held operands.value suits)
     put_writes place old index there =
         let same : unsigned_abs operands.index ≡ place = ap unsigned_abs index in
-        let written : Written e stack heap number (unsigned_abs operands.index) (narrowed held operands.value) = record {
+        let v : Value = narrowed held operands.value in
+        let written : Written e stack heap number (unsigned_abs operands.index) v = record {
           operands = operands;
           held = held;
           old = old;

@@ -20,5 +20,5 @@ pub use load::load_effect;
 pub use make::make_effect;
 pub use operand::{StoreOperands, reference_and_int, store_operands};
 pub use place::element_descriptor;
-pub use step::{Known, array_effect, array_step};
+pub use step::{Setting, array_effect, array_step};
 pub use store::store_effect;

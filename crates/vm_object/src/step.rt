@@ -16,7 +16,7 @@ use vm_world::{Frame, Heap};
 
 /// What the pool, the classes and the bounds tell of an instruction on arrays.
 #[derive(Debug, Drop)]
-pub struct Known {
+pub struct Setting {
     /// The descriptor of the type that an anewarray names, if its constant names one.
     pub element: Option<Name>,
     /// Whether the value of an aastore suits the element type of its array.
@@ -39,17 +39,17 @@ fn named_type(alloc: Global, code: u8) -> Mem<Option<Name>>
 pub fn array_effect(
     alloc: Global,
     array: Array,
-    known: Known,
+    setting: Setting,
     stack: &[Value],
     heap: &Heap,
 ) -> Mem<ArrayEffect>
-    ensures { IfOk result (λ effect. effect ≡ specs.array_effect array known stack.now heap.now) }
+    ensures { IfOk result (λ effect. effect ≡ specs.array_effect array setting stack.now heap.now) }
 {
-    let Known {
+    let Setting {
         element,
         suits,
         bound,
-    } = known;
+    } = setting;
     Ok(match array {
         Array::Load(name) => load_effect(name, stack, heap),
         Array::Store(name) => store_effect(name, suits, stack, heap),
@@ -65,14 +65,14 @@ pub fn array_effect(
 pub fn array_step(
     alloc: Global,
     array: Array,
-    known: Known,
+    setting: Setting,
     next: u16,
     frame: &mut Frame,
     heap: &mut Heap,
 ) -> Mem<ArrayWent>
-    ensures ok { IfOk result (λ went. (went, frame.new, heap.new) ≡ specs.array_step array known next frame.old heap.old) }
+    ensures ok { IfOk result (λ went. (went, frame.new, heap.new) ≡ specs.array_step array setting next frame.old heap.old) }
     ensures unchanged { OnErr result ((frame.new ≡ frame.old) × (heap.new ≡ heap.old)) }
 {
-    let effect = array_effect(alloc, array, known, frame.stack.as_slice(), heap)?;
+    let effect = array_effect(alloc, array, setting, frame.stack.as_slice(), heap)?;
     carry_out(alloc, effect, next, frame, heap)
 }

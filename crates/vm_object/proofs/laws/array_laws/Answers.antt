@@ -4,9 +4,9 @@ use Rattle.vm_object.proofs.laws.array_laws.Goals as goal
 
 pub returns : goal.returns
 returns c = record {
-  kinds = λ array known next frame heap kind. raises_its_kinds next frame heap array known kind;
-  goes_on = λ array known next frame heap. goes_on next frame heap (array_effect array known frame.stack heap);
-  refusals = λ array known next frame heap.
-      kept_by_refusal next frame heap (array_effect array known frame.stack heap);
-  locals = λ array known next frame heap. locals_kept next frame heap (array_effect array known frame.stack heap);
+  kinds = λ array setting next frame heap kind. raises_its_kinds next frame heap array setting kind;
+  goes_on = λ array setting next frame heap. goes_on next frame heap (array_effect array setting frame.stack heap);
+  refusals = λ array setting next frame heap.
+      kept_by_refusal next frame heap (array_effect array setting frame.stack heap);
+  locals = λ array setting next frame heap. locals_kept next frame heap (array_effect array setting frame.stack heap);
 }

@@ -9,6 +9,6 @@ use Rattle.vm_object.proofs.step.array_step.Goals as goal
 pub carry_out-requires : goal.carry_out-requires
 carry_out-requires c =
     subst (λ (e : ArrayEffect). Suits e c.args.frame.now)
-    (sym (c.in_ok-effect.ensures ∙ ap (λ (s : List Value). array_effect c.args.array c.args.known s c.args.heap.now)
+    (sym (c.in_ok-effect.ensures ∙ ap (λ (s : List Value). array_effect c.args.array c.args.setting s c.args.heap.now)
     c.as_slice.ensures))
-    (effect_suits c.args.array c.args.known c.args.frame.now c.args.heap.now)
+    (effect_suits c.args.array c.args.setting c.args.frame.now c.args.heap.now)
