@@ -1,5 +1,6 @@
 -- The element types of arrays, and their values (JVM Specification SE 8, 2.3, 2.4 and 4.3.2).
-use Rattle.std.specs.Prelude.{◌==◌, ◌||◌, ℕ, ℤ, pos, Bool, true, false, if◌then◌else◌, List, Option, Some, None, slice_get, codes}
+use Rattle.std.specs.Prelude.{◌==◌, ◌||◌, ℕ, ℤ, pos, Bool, true, false, if◌then◌else◌, List, Option, Some, None}
+use Rattle.std.specs.Prelude.{slice_get, codes}
 use Rattle.std.specs.Int.{w8, w16, int_wrap, int_rem_euclid}
 use Rattle.jv_base.specs.declared.value.Value.{Value}
 use Rattle.jv_base.specs.declared.value.Value.TheVariants as values
@@ -8,8 +9,8 @@ use Rattle.cf_code.specs.declared.array.Element.TheVariants as elements
 use Rattle.vm_object.specs.declared.element.ElementType.{ElementType}
 use Rattle.vm_object.specs.declared.element.ElementType.TheVariants.{Boolean, Byte, Char, Short, Int, Long, Reference}
 
--- the element type whose descriptor begins with a character (4.3.2): Z, B, C, S, I, J, and L or [. F and D have none: no value
--- is a float or a double.
+-- the element type whose descriptor begins with a character (4.3.2): Z, B, C, S, I, J, and L or [. F and D have none: no
+-- value is a float or a double.
 abbrev pub type_of : ℕ → Option ElementType
 type_of c =
     if c == 90 then Some Boolean else
@@ -67,8 +68,8 @@ holds elements.Long (values.Long n) = true
 holds elements.Reference (values.Ref r) = true
 holds element value = false
 
--- 6.5 bastore: of an int the low 8 bits are kept, with their sign, and in an array of booleans the lowest bit. castore: the low 16
--- bits, without a sign. sastore: the low 16 bits, with their sign.
+-- 6.5 bastore: of an int the low 8 bits are kept, with their sign, and in an array of booleans the lowest bit. castore: the
+-- low 16 bits, without a sign. sastore: the low 16 bits, with their sign.
 abbrev pub narrowed_int : ElementType → ℤ → ℤ
 narrowed_int Boolean n = int_rem_euclid n (pos 2)
 narrowed_int Byte n = int_wrap w8 n

@@ -12,8 +12,8 @@ use Rattle.vm_object.specs.ElementTypes.{holds}
 use Rattle.vm_object.specs.Operands.{reference_and_int}
 use Rattle.vm_object.specs.Places.{array_for, element_in}
 
--- what was found at the index: nothing raises bounds. The element is the number itself, which baload and saload extend with its sign
--- and caload with zeros.
+-- what was found at the index: nothing raises bounds. baload and saload extend an element with its sign, and caload with zeros,
+-- so the int is the number that the element is; a boolean is 0 or 1.
 abbrev pub loaded : Element → Option Value → ArrayEffect
 loaded element None = Raises Bounds
 loaded element (Some v) = if holds element v then Gives 2 v else Sticks

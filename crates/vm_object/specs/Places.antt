@@ -34,8 +34,8 @@ abbrev pub or_sticks : ℕ → Option ElementType → Result (ℕ × ElementType
 or_sticks number None = Err Sticks
 or_sticks number (Some held) = Ok (number, held)
 
--- what a load or a store works on: null raises null; a reference to no array, or to one that the instruction does not take, is
--- stuck
+-- what a load or a store works on: null raises null; a reference to no array, or to one that the instruction does not take,
+-- is stuck
 abbrev pub array_for : List Object → Element → Option ℕ → Result (ℕ × ElementType) ArrayEffect
 array_for heap element None = Err (Raises Null)
 array_for heap element (Some number) = or_sticks number (taken element (element_descriptor heap number))
