@@ -4,7 +4,9 @@ use Rattle.std.proofs.Common.{length, replicate, Option, Some, None, refl, sym, 
 use Rattle.std.proofs.Common.{length-append, inl, inr}
 use Rattle.std.specs.Option.{option_map}
 use Rattle.std.proofs.lemmas.Bool.{cases_eq, cond-true}
-use Rattle.std.proofs.lemmas.Option.{same_Some, slice_get_within}
+use Rattle.std.proofs.lemmas.Option.{same_Some, slice_get_within, slice_get-get_or, slice_get_past}
+use Rattle.std.proofs.lemmas.List.{length-replicate, get_or-replicate}
+use Rattle.std.specs.Prelude.{unsigned_abs, slice_get, ◌<◌, ◌≤◌}
 use Rattle.jv_list.proofs.PlaceLemmas.{slice_get-set_same, slice_get-set_other, slice_get-push_last}
 use Rattle.jv_base.specs.declared.value.Value.{Value}
 use Rattle.jv_base.specs.declared.value.Value.TheVariants as values
@@ -19,14 +21,14 @@ use Rattle.vm_world.specs.declared.object.Object.TheVariants.{Instance, Array as
 use Rattle.vm_world.specs.Heap.{object_at, of_object, element_at, changed}
 use Rattle.vm_world.specs.Objects.{element_of, with_element}
 use Rattle.vm_world.specs.Laws.{ChangesOne, ChangesNoOther, NewIsLast, NewKeepsOthers}
-use Rattle.vm_frame.specs.Operands.{top, without}
+use Rattle.vm_frame.specs.Operands.{top, without, int_in}
 use Rattle.vm_object.specs.declared.element.ElementType.{ElementType}
 use Rattle.vm_object.specs.declared.operand.StoreOperands.{StoreOperands}
 use Rattle.vm_object.specs.declared.effect.ArrayEffect.{ArrayEffect}
 use Rattle.vm_object.specs.declared.effect.ArrayEffect.TheVariants.{Gives, Makes, Puts, Raises, Sticks, Leaves}
 use Rattle.vm_object.specs.declared.effect.ArrayWent.TheVariants.{Next}
 use Rattle.vm_object.specs.declared.step.Setting.{Setting}
-use Rattle.vm_object.specs.ElementTypes.{holds, narrowed_int, narrowed, type_text}
+use Rattle.vm_object.specs.ElementTypes.{default_value, element_type, holds, narrowed_int, narrowed, type_text}
 use Rattle.vm_object.specs.Operands.{reference_and_int, store_operands}
 use Rattle.vm_object.specs.Places.{descriptor_of, element_descriptor, taken, or_sticks, array_for, element_in}
 use Rattle.vm_object.specs.Loads.{loaded, loaded_from, load_given, load_effect}
@@ -56,40 +58,96 @@ Added descriptor stack heap after =
     × (element_descriptor after (length heap + 1) ≡ Some descriptor)
     × ((number : ℕ) → number ≢ length heap + 1 → object_at after number ≡ object_at heap number)
 
+abbrev pub Filled : ℕ → ElementType → ℕ → ℕ → List Object → List Object → Type 0
+Filled bound held n place heap after =
+    (n ≤ bound) × (place < n → element_at after (length heap + 1) place ≡ Some (default_value held))
+    × (n ≤ place → element_at after (length heap + 1) place ≡ None)
+
 pushed : {X : Type 0} (xs : List X) (x : X) → top (xs ++ x ∷ []) ≡ Some x
 pushed xs x = slice_get-push_last xs x (length (xs ++ x ∷ []) - 1) (omega (arith, length-append xs (x ∷ [])))
 
+within_copies : {X : Type 0} (n i : ℕ) (x : X) → i < n → slice_get (replicate n x) i ≡ Some x
+within_copies n i x lt =
+    slice_get-get_or (replicate n x) i x (omega (arith, lt, length-replicate n x))
+    ∙ ap (λ y. Some y) (get_or-replicate n i x x lt)
+
+past_copies : {X : Type 0} (n i : ℕ) (x : X) → n ≤ i → slice_get (replicate n x) i ≡ None
+past_copies n i x le = slice_get_past (replicate n x) i (omega (arith, le, length-replicate n x))
+
 module _ (last : NewIsLast) (others : NewKeepsOthers) (next : ℕ) (frame : Frame) (heap : List Object) where
-  pub new_is_next : (wanted : Option (List ℕ)) (descriptor : List ℕ) (effect : ArrayEffect)
-      → MakesNamed wanted frame.stack effect → wanted ≡ Some descriptor → (done next effect frame heap).0 ≡ Next
+  new_is_next : (wanted : Option (List ℕ)) (bound : ℕ) (descriptor : List ℕ) (effect : ArrayEffect)
+      → MakesNamed wanted bound frame.stack effect → wanted ≡ Some descriptor → (done next effect frame heap).0 ≡ Next
       → Added descriptor (done next effect frame heap).1.stack heap (done next effect frame heap).2
-  new_is_next wanted descriptor (Gives n v) h is e = absurd h
-  new_is_next wanted descriptor (Makes made n v) h is e =
-      let same : made ≡ descriptor = same_Some made descriptor (sym h.0 ∙ is) in (
+  new_is_next wanted bound descriptor (Gives n v) h is e = absurd h
+  new_is_next wanted bound descriptor (Makes made n v) h is e =
+      let same : made ≡ descriptor = same_Some made descriptor (sym h.name ∙ is) in (
         pushed (without 1 frame.stack) (values.Ref (Some (length heap + 1))),
         ap (of_object descriptor_of) (last heap (ArrayObject made (replicate n v))) ∙ ap (λ (d : List ℕ). Some d) same,
         others heap (ArrayObject made (replicate n v)),
       )
-  new_is_next wanted descriptor (Puts number place v) h is e = absurd h
-  new_is_next wanted descriptor (Raises kind) h is e = absurd cc
-  new_is_next wanted descriptor Sticks h is e = absurd cc
-  new_is_next wanted descriptor Leaves h is e = absurd cc
+  new_is_next wanted bound descriptor (Puts number place v) h is e = absurd h
+  new_is_next wanted bound descriptor (Raises kind) h is e = absurd cc
+  new_is_next wanted bound descriptor Sticks h is e = absurd cc
+  new_is_next wanted bound descriptor Leaves h is e = absurd cc
+
+  module _ (descriptor : List ℕ) (held : ElementType) (n place : ℕ) (type_is : element_type descriptor ≡ Some held)
+      (count : int_in (top frame.stack) ≡ Some (pos n)) where
+    new_is_filled : (wanted : Option (List ℕ)) (bound : ℕ) (effect : ArrayEffect)
+        → MakesNamed wanted bound frame.stack effect → wanted ≡ Some descriptor
+        → (done next effect frame heap).0 ≡ Next → Filled bound held n place heap (done next effect frame heap).2
+    new_is_filled wanted bound (Gives k v) h is e = absurd h
+    new_is_filled wanted bound (Makes made k v) h is e =
+        let name : made ≡ descriptor = same_Some made descriptor (sym h.name ∙ is) in
+        let one_type : h.held ≡ held =
+        same_Some h.held held (sym h.type_is ∙ ap element_type name ∙ type_is) in
+        let size : pos k ≡ pos n = same_Some (pos k) (pos n) (sym h.count ∙ count) in
+        let same : k ≡ n = ap unsigned_abs size in
+        let value : v ≡ default_value held = h.value ∙ ap default_value one_type in
+        let read : element_at (heap ++ ArrayObject made (replicate k v) ∷ []) (length heap + 1) place
+        ≡ slice_get (replicate k v) place =
+        ap (of_object (λ object. element_of object place)) (last heap (ArrayObject made (replicate k v))) in (
+          omega (arith, h.within, same),
+          λ lt. read ∙ within_copies k place v (omega (arith, lt, same)) ∙ ap (λ (u : Value). Some u) value,
+          λ le. read ∙ past_copies k place v (omega (arith, le, same)),
+        )
+    new_is_filled wanted bound (Puts number stored v) h is e = absurd h
+    new_is_filled wanted bound (Raises kind) h is e = absurd cc
+    new_is_filled wanted bound Sticks h is e = absurd cc
+    new_is_filled wanted bound Leaves h is e = absurd cc
 
   -- by the instruction that names the type
-  pub named_is_next : (setting : Setting) (descriptor : List ℕ) (array : Array) → named array setting ≡ Some descriptor
-      → (done next (array_effect array setting frame.stack heap) frame heap).0 ≡ Next
-      → Added descriptor (done next (array_effect array setting frame.stack heap) frame heap).1.stack heap
-      (done next (array_effect array setting frame.stack heap) frame heap).2
-  named_is_next setting descriptor (Load e) is went = absurd cc
-  named_is_next setting descriptor (Store e) is went = absurd cc
-  named_is_next setting descriptor (New code) is went =
-      new_is_next (type_text code) descriptor (make_effect (type_text code) setting.bound frame.stack)
-      (make_makes (type_text code) setting.bound frame.stack) is went
-  named_is_next setting descriptor (NewOf index) is went =
-      new_is_next setting.element descriptor (make_effect setting.element setting.bound frame.stack)
-      (make_makes setting.element setting.bound frame.stack) is went
-  named_is_next setting descriptor (NewMany index dimensions) is went = absurd cc
-  named_is_next setting descriptor Length is went = absurd cc
+  module _ (setting : Setting) (descriptor : List ℕ) where
+    pub named_is_next : (array : Array) → named array setting ≡ Some descriptor
+        → (done next (array_effect array setting frame.stack heap) frame heap).0 ≡ Next
+        → Added descriptor (done next (array_effect array setting frame.stack heap) frame heap).1.stack heap
+        (done next (array_effect array setting frame.stack heap) frame heap).2
+    named_is_next (Load e) is went = absurd cc
+    named_is_next (Store e) is went = absurd cc
+    named_is_next (New code) is went =
+        new_is_next (type_text code) setting.bound descriptor (make_effect (type_text code) setting.bound frame.stack)
+        (make_makes (type_text code) setting.bound frame.stack) is went
+    named_is_next (NewOf index) is went =
+        new_is_next setting.element setting.bound descriptor (make_effect setting.element setting.bound frame.stack)
+        (make_makes setting.element setting.bound frame.stack) is went
+    named_is_next (NewMany index dimensions) is went = absurd cc
+    named_is_next Length is went = absurd cc
+
+    pub named_is_filled : (held : ElementType) (n place : ℕ) (array : Array) → named array setting ≡ Some descriptor
+        → element_type descriptor ≡ Some held → int_in (top frame.stack) ≡ Some (pos n)
+        → (done next (array_effect array setting frame.stack heap) frame heap).0 ≡ Next
+        → Filled setting.bound held n place heap (done next (array_effect array setting frame.stack heap) frame heap).2
+    named_is_filled held n place (Load e) is type_is count went = absurd cc
+    named_is_filled held n place (Store e) is type_is count went = absurd cc
+    named_is_filled held n place (New code) is type_is count went =
+        new_is_filled descriptor held n place type_is count (type_text code) setting.bound
+        (make_effect (type_text code) setting.bound frame.stack)
+        (make_makes (type_text code) setting.bound frame.stack) is went
+    named_is_filled held n place (NewOf index) is type_is count went =
+        new_is_filled descriptor held n place type_is count setting.element setting.bound
+        (make_effect setting.element setting.bound frame.stack)
+        (make_makes setting.element setting.bound frame.stack) is went
+    named_is_filled held n place (NewMany index dimensions) is type_is count went = absurd cc
+    named_is_filled held n place Length is type_is count went = absurd cc
 
 -- ---- an element that was stored
 

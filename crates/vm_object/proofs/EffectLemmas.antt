@@ -1,5 +1,6 @@
 -- What the effects of instructions on arrays are: of those that read, and of those that make an array.
-use Rattle.std.proofs.Common.{◌≡◌, ℕ, ◌<◌, ℤ, pos, negsuc, Bool, true, false, if◌then◌else◌, List, [], ◌∷◌, length}
+use Rattle.std.proofs.lemmas.Bool.{leb-true}
+use Rattle.std.proofs.Common.{◌≡◌, ℕ, ◌<◌, ◌≤◌, ℤ, pos, negsuc, Bool, true, false, if◌then◌else◌, List, [], ◌∷◌, length}
 use Rattle.std.proofs.Common.{Option, Some, None, refl, arith}
 use Rattle.std.specs.Prelude.{nat_le, nat_lt, ◌^◌}
 use Rattle.jv_base.specs.declared.method.Kind.TheVariants.{Null, Bounds, NegSize}
@@ -97,37 +98,58 @@ length_reads stack heap = reference_reads heap (reference_in (top stack))
 
 -- ---- what makes an array
 
--- the effect makes an array of the named type, raises negsize, sticks or leaves
-abbrev pub MakesNamed : Option (List ℕ) → List Value → ArrayEffect → Type 0
-MakesNamed named stack (Gives n v) = ⊥
-MakesNamed named stack (Makes descriptor n v) = (named ≡ Some descriptor) × (0 < length stack)
-MakesNamed named stack (Puts number place v) = ⊥
-MakesNamed named stack (Raises kind) = kind ≡ NegSize
-MakesNamed named stack Sticks = Unit {0}
-MakesNamed named stack Leaves = Unit {0}
+-- what is made: an array of the named type, with as many default values as the int on the stack says
+pub record Made (named : Option (List ℕ)) (bound : ℕ) (stack : List Value) (descriptor : List ℕ) (n : ℕ) (v : Value)
+    : Type 0 where
+  pub held : ElementType
+  pub name : named ≡ Some descriptor
+  pub count : int_in (top stack) ≡ Some (pos n)
+  pub within : n ≤ bound
+  pub type_is : element_type descriptor ≡ Some held
+  pub value : v ≡ default_value held
 
-not_empty : (stack : List Value) (z : ℤ) → int_in (top stack) ≡ Some z → 0 < length stack
+-- the effect makes so, raises negsize, sticks or leaves
+abbrev pub MakesNamed : Option (List ℕ) → ℕ → List Value → ArrayEffect → Type 0
+MakesNamed named bound stack (Gives n v) = ⊥
+MakesNamed named bound stack (Makes descriptor n v) = Made named bound stack descriptor n v
+MakesNamed named bound stack (Puts number place v) = ⊥
+MakesNamed named bound stack (Raises kind) = kind ≡ NegSize
+MakesNamed named bound stack Sticks = Unit {0}
+MakesNamed named bound stack Leaves = Unit {0}
+
+pub not_empty : (stack : List Value) (z : ℤ) → int_in (top stack) ≡ Some z → 0 < length stack
 not_empty [] z e = absurd cc
 not_empty (x ∷ xs) z e = omega arith
 
 module _ (descriptor : List ℕ) (bound : ℕ) (stack : List Value) where
-  sized_makes : (v : Value) (z : ℤ) → int_in (top stack) ≡ Some z
-      → MakesNamed (Some descriptor) stack (made descriptor bound v z)
-  sized_makes v (pos n) e =
-      by_test (MakesNamed (Some descriptor) stack) (nat_le n bound) (Makes descriptor n v) Leaves
-      (λ h. (refl, not_empty stack (pos n) e)) (λ h. tt)
-  sized_makes v (negsuc n) e = refl
+  module _ (held : ElementType) (type_is : element_type descriptor ≡ Some held) where
+    sized_makes : (z : ℤ) → int_in (top stack) ≡ Some z
+        → MakesNamed (Some descriptor) bound stack (made descriptor bound (default_value held) z)
+    sized_makes (pos n) e =
+        by_test (MakesNamed (Some descriptor) bound stack) (nat_le n bound)
+        (Makes descriptor n (default_value held)) Leaves
+        (λ h. record {
+          held = held;
+          name = refl;
+          count = e;
+          within = leb-true n bound h;
+          type_is = type_is;
+          value = refl;
+        })
+        (λ h. tt)
+    sized_makes (negsuc n) e = refl
 
-  given_makes : (v : Value) (o : Option ℤ) → int_in (top stack) ≡ o
-      → MakesNamed (Some descriptor) stack (made_given descriptor bound v o)
-  given_makes v None e = tt
-  given_makes v (Some z) e = sized_makes v z e
+    given_makes : (o : Option ℤ) → int_in (top stack) ≡ o
+        → MakesNamed (Some descriptor) bound stack (made_given descriptor bound (default_value held) o)
+    given_makes None e = tt
+    given_makes (Some z) e = sized_makes z e
 
-  typed_makes : (t : Option ElementType) → MakesNamed (Some descriptor) stack (made_typed descriptor bound stack t)
-  typed_makes None = tt
-  typed_makes (Some held) = given_makes (default_value held) (int_in (top stack)) refl
+  typed_makes : (t : Option ElementType) → element_type descriptor ≡ t
+      → MakesNamed (Some descriptor) bound stack (made_typed descriptor bound stack t)
+  typed_makes None type_is = tt
+  typed_makes (Some held) type_is = given_makes held type_is (int_in (top stack)) refl
 
 pub make_makes : (named : Option (List ℕ)) (bound : ℕ) (stack : List Value)
-    → MakesNamed named stack (make_effect named bound stack)
+    → MakesNamed named bound stack (make_effect named bound stack)
 make_makes None bound stack = tt
-make_makes (Some descriptor) bound stack = typed_makes descriptor bound stack (element_type descriptor)
+make_makes (Some descriptor) bound stack = typed_makes descriptor bound stack (element_type descriptor) refl

@@ -1,5 +1,5 @@
 -- The laws of all instructions on arrays, from what their effects are.
-use Rattle.std.proofs.Common.{◌≡◌, ◌≢◌, ℕ, ◌<◌, true, List, length, Option, refl, sym, subst}
+use Rattle.std.proofs.Common.{pos, ◌≡◌, ◌≢◌, ℕ, ◌<◌, true, List, length, Option, refl, sym, subst}
 use Rattle.jv_base.specs.declared.method.Kind.{Kind}
 use Rattle.jv_base.specs.declared.method.Kind.TheVariants.{NegSize}
 use Rattle.jv_base.specs.declared.value.Value.{Value}
@@ -22,7 +22,7 @@ use Rattle.vm_object.specs.Lengths.{length_effect}
 use Rattle.vm_object.specs.NewArrays.{make_effect}
 use Rattle.vm_object.specs.Steps.{array_effect}
 use Rattle.vm_object.specs.Effects.{done}
-use Rattle.vm_object.proofs.EffectLemmas.{Reads, MakesNamed, load_reads, length_reads, make_makes}
+use Rattle.vm_object.proofs.EffectLemmas.{Reads, MakesNamed, not_empty, load_reads, length_reads, make_makes}
 use Rattle.vm_object.proofs.StoreLemmas.{Writes, store_writes}
 
 -- a kind that is raised is the instruction's, and where an array is made there is a value on top
@@ -52,15 +52,15 @@ meets_writes e stack heap (Raises kind) h = h
 meets_writes e stack heap Sticks h = tt
 meets_writes e stack heap Leaves h = tt
 
-meets_makes : (array : Array) (named : Option (List ℕ)) (stack : List Value) (effect : ArrayEffect)
-    → array_raises array NegSize ≡ true → MakesNamed named stack effect → Meets array stack effect
-meets_makes array named stack (Gives n v) negsize h = tt
-meets_makes array named stack (Makes descriptor n v) negsize h = h.1
-meets_makes array named stack (Puts number place v) negsize h = tt
-meets_makes array named stack (Raises kind) negsize h =
+meets_makes : (array : Array) (named : Option (List ℕ)) (bound : ℕ) (stack : List Value) (effect : ArrayEffect)
+    → array_raises array NegSize ≡ true → MakesNamed named bound stack effect → Meets array stack effect
+meets_makes array named bound stack (Gives n v) negsize h = tt
+meets_makes array named bound stack (Makes descriptor n v) negsize h = not_empty stack (pos n) h.count
+meets_makes array named bound stack (Puts number place v) negsize h = tt
+meets_makes array named bound stack (Raises kind) negsize h =
     subst (λ (k : Kind). array_raises array k ≡ true) (sym h) negsize
-meets_makes array named stack Sticks negsize h = tt
-meets_makes array named stack Leaves negsize h = tt
+meets_makes array named bound stack Sticks negsize h = tt
+meets_makes array named bound stack Leaves negsize h = tt
 
 module _ (setting : Setting) (stack : List Value) (heap : List Object) where
   pub effect_meets : (array : Array) → Meets array stack (array_effect array setting stack heap)
@@ -68,10 +68,10 @@ module _ (setting : Setting) (stack : List Value) (heap : List Object) where
   effect_meets (Store e) =
       meets_writes e stack heap (store_effect e setting.suits stack heap) (store_writes e setting.suits stack heap)
   effect_meets (New code) =
-      meets_makes (New code) (type_text code) stack (make_effect (type_text code) setting.bound stack) refl
+      meets_makes (New code) (type_text code) setting.bound stack (make_effect (type_text code) setting.bound stack) refl
       (make_makes (type_text code) setting.bound stack)
   effect_meets (NewOf index) =
-      meets_makes (NewOf index) setting.element stack (make_effect setting.element setting.bound stack) refl
+      meets_makes (NewOf index) setting.element setting.bound stack (make_effect setting.element setting.bound stack) refl
       (make_makes setting.element setting.bound stack)
   effect_meets (NewMany index dimensions) = tt
   effect_meets Length = meets_reads Length stack (length_effect stack heap) (length_reads stack heap)

@@ -21,9 +21,11 @@ at frame pc stack = record frame { pc = pc; stack = stack }
 -- next number, and a store changes an element of one array. A fault, and what is stuck or left, leave all as it was.
 abbrev pub done : ℕ → ArrayEffect → Frame → List Object → ArrayWent × Frame × List Object
 done next (Gives n v) frame heap = (Next, at frame next (without n frame.stack ++ v ∷ []), heap)
-done next (Makes descriptor n v) frame heap =
-    (Next, at frame next (without 1 frame.stack ++ Ref (Some (length heap + 1)) ∷ []),
-    heap ++ Array descriptor (replicate n v) ∷ [])
+done next (Makes descriptor n v) frame heap = (
+  Next,
+  at frame next (without 1 frame.stack ++ Ref (Some (length heap + 1)) ∷ []),
+  heap ++ Array descriptor (replicate n v) ∷ [],
+)
 done next (Puts number place v) frame heap =
     (Next, at frame next (without 3 frame.stack), changed heap number (λ object. with_element object place v))
 done next (Raises kind) frame heap = (Raised kind, frame, heap)

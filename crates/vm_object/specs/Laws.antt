@@ -1,5 +1,5 @@
 -- What holds of the definitions.
-use Rattle.std.specs.Prelude.{◌≡◌, ◌≢◌, ℕ, ◌+◌, pos, true, List, length, Some, None, Option}
+use Rattle.std.specs.Prelude.{◌≡◌, ◌≢◌, ℕ, ◌+◌, ◌<◌, ◌≤◌, pos, true, List, length, Some, None, Option}
 use Rattle.jv_base.specs.declared.method.Kind.{Kind}
 use Rattle.jv_base.specs.declared.value.Value.TheVariants.{Ref}
 use Rattle.cf_code.specs.declared.instr.Instr.TheVariants as instrs
@@ -10,13 +10,13 @@ use Rattle.cf_code.specs.Kinds.{raises}
 use Rattle.vm_world.specs.declared.frame.Frame.{Frame}
 use Rattle.vm_world.specs.declared.object.Object.{Object}
 use Rattle.vm_world.specs.Heap.{object_at, element_at}
-use Rattle.vm_frame.specs.Operands.{top}
+use Rattle.vm_frame.specs.Operands.{top, int_in}
 use Rattle.vm_object.specs.declared.element.ElementType.{ElementType}
 use Rattle.vm_object.specs.declared.operand.StoreOperands.{StoreOperands}
 use Rattle.vm_object.specs.declared.effect.ArrayEffect.TheVariants.{Gives}
 use Rattle.vm_object.specs.declared.effect.ArrayWent.TheVariants.{Next, Raised}
 use Rattle.vm_object.specs.declared.step.Setting.{Setting}
-use Rattle.vm_object.specs.ElementTypes.{narrowed, type_text}
+use Rattle.vm_object.specs.ElementTypes.{default_value, element_type, narrowed, type_text}
 use Rattle.vm_object.specs.Operands.{reference_and_int, store_operands}
 use Rattle.vm_object.specs.Places.{element_descriptor, taken}
 use Rattle.vm_object.specs.Loads.{load_effect}
@@ -72,6 +72,16 @@ NewIsNext = (array : Array) (setting : Setting) (next : ℕ) (frame : Frame) (he
     × (element_descriptor (array_step array setting next frame heap).2 (length heap + 1) ≡ Some descriptor)
     × ((number : ℕ) → number ≢ length heap + 1
     → object_at (array_step array setting next frame heap).2 number ≡ object_at heap number)
+
+-- it has as many elements as the int on the stack says, no more than the bound, and each has the default value of the type
+abbrev pub NewIsFilled : Type 0
+NewIsFilled = (array : Array) (setting : Setting) (next : ℕ) (frame : Frame) (heap : List Object) (descriptor : List ℕ)
+    (held : ElementType) (n place : ℕ) → named array setting ≡ Some descriptor → element_type descriptor ≡ Some held
+    → int_in (top frame.stack) ≡ Some (pos n) → (array_step array setting next frame heap).0 ≡ Next
+    → (n ≤ setting.bound)
+    × (place < n
+    → element_at (array_step array setting next frame heap).2 (length heap + 1) place ≡ Some (default_value held))
+    × (n ≤ place → element_at (array_step array setting next frame heap).2 (length heap + 1) place ≡ None)
 
 -- a store changes no other object than the array on the stack
 abbrev pub StoreKeepsOthers : Type 0

@@ -1,6 +1,6 @@
 // Laws of the definitions, each a clause of a function that does nothing.
 ghost use Rattle.vm_object.specs.Laws.{RaisesItsKinds, GoesOn, RefusalsKeepAll, KeepsItsLocals};
-ghost use Rattle.vm_object.specs.Laws.{ReadsKeepHeap, NewIsNext, StoreKeepsOthers, StoreKeepsElements, StoreIsLoaded};
+ghost use Rattle.vm_object.specs.Laws.{ReadsKeepHeap, NewIsNext, NewIsFilled, StoreKeepsOthers, StoreKeepsElements, StoreIsLoaded};
 
 use vm_world::heap_laws;
 
@@ -16,6 +16,7 @@ pub fn array_laws()
 pub fn change_laws()
     ensures reads { ReadsKeepHeap }
     ensures next { NewIsNext }
+    ensures filled { NewIsFilled }
     ensures others { StoreKeepsOthers }
     ensures elements { StoreKeepsElements }
     ensures loaded { StoreIsLoaded }

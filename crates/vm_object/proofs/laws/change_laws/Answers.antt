@@ -4,7 +4,7 @@ use Rattle.vm_object.specs.Stores.{store_effect}
 use Rattle.vm_object.specs.Lengths.{length_effect}
 use Rattle.vm_object.proofs.EffectLemmas.{load_reads, length_reads}
 use Rattle.vm_object.proofs.StoreLemmas.{store_writes}
-use Rattle.vm_object.proofs.ChangeLemmas.{read_keeps, named_is_next, store_keeps_others, store_keeps_elements}
+use Rattle.vm_object.proofs.ChangeLemmas.{read_keeps, named_is_next, named_is_filled, store_keeps_others, store_keeps_elements}
 use Rattle.vm_object.proofs.ChangeLemmas.{store_is_loaded}
 use Rattle.vm_object.proofs.laws.change_laws.Goals as goal
 
@@ -20,6 +20,12 @@ pub returns-clause-next : goal.returns-clause-next
 returns-clause-next c =
     λ array setting next frame heap descriptor is went.
     named_is_next c.heap_laws.ensures.last c.heap_laws.ensures.keeps next frame heap setting descriptor array is went
+
+pub returns-clause-filled : goal.returns-clause-filled
+returns-clause-filled c =
+    λ array setting next frame heap descriptor held n place.
+    named_is_filled c.heap_laws.ensures.last c.heap_laws.ensures.keeps next frame heap setting descriptor held n place
+    array
 
 pub returns-clause-others : goal.returns-clause-others
 returns-clause-others c =
