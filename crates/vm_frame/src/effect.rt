@@ -49,7 +49,7 @@ pub enum FrameWent {
 }
 
 /// Takes values off a stack.
-fn take_off(stack: &mut List<Value>, count: usize)
+pub fn take_off(stack: &mut List<Value>, count: usize)
     ensures { stack.new ≡ without count stack.old }
 {
     let kept = stack.length().saturating_sub(count);
@@ -57,7 +57,7 @@ fn take_off(stack: &mut List<Value>, count: usize)
 }
 
 /// Takes values off a stack, and puts one on it. For want of memory the stack stays.
-fn replace(stack: &mut List<Value>, count: usize, value: Value) -> Mem<()>
+pub fn replace(stack: &mut List<Value>, count: usize, value: Value) -> Mem<()>
     ensures ok { OnOk result (stack.new ≡ without count stack.old ++ value ∷ []) }
     ensures unchanged { OnErr result (stack.new ≡ stack.old) }
 {

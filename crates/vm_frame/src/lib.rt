@@ -15,13 +15,14 @@ mod step;
 mod switch;
 
 pub use constant::constant_effect;
-pub use effect::{FrameEffect, FrameWent};
+pub use effect::{FrameEffect, FrameWent, replace, take_off};
 pub use jump::jump_effect;
 pub use laws::{local_laws, step_laws};
 pub use local::{local_at, local_effect};
-pub use number::number_effect;
+pub use number::{int_to_byte, int_to_char, int_to_short, number_effect};
 pub use operand::{
-    Operands, int_in, long_in, reference_in, second, top, two_ints, two_longs, two_references,
+    Operands, both, int_in, long_in, reference_in, second, top, two_ints, two_longs,
+    two_references, without,
 };
 pub use stack::stack_effect;
 pub use step::{frame_effect, frame_step};

@@ -38,19 +38,22 @@ fn long_to_int(number: i64) -> i32
     (number.rem_euclid(4294967296) as u32).cast_signed()
 }
 
-fn int_to_byte(number: i32) -> i32
+/// The low 8 bits of an int, with their sign.
+pub fn int_to_byte(number: i32) -> i32
     ensures { result ≡ int_wrap w8 number }
 {
     i32::from((number.rem_euclid(256) as u8).cast_signed())
 }
 
-fn int_to_short(number: i32) -> i32
+/// Its low 16 bits, with their sign.
+pub fn int_to_short(number: i32) -> i32
     ensures { result ≡ int_wrap w16 number }
 {
     i32::from((number.rem_euclid(65536) as u16).cast_signed())
 }
 
-fn int_to_char(number: i32) -> i32
+/// Its low 16 bits, without a sign.
+pub fn int_to_char(number: i32) -> i32
     ensures { result ≡ int_rem_euclid number (pos 65536) }
 {
     number.rem_euclid(65536)

@@ -26,7 +26,7 @@ impl Operands {
 }
 
 /// The values but for so many on top.
-pub(crate) fn without(stack: &[Value], count: usize) -> &[Value]
+pub fn without(stack: &[Value], count: usize) -> &[Value]
     ensures { result.now ≡ specs.without count stack.now }
 {
     &stack[..stack.len().saturating_sub(count)]
@@ -75,7 +75,7 @@ pub fn reference_in(value: Option<Value>) -> Option<Option<u64>>
 }
 
 /// Both, where both are there.
-fn both<A: Copy, B: Copy>(first: Option<A>, second: Option<B>) -> Option<(A, B)>
+pub fn both<A: Copy, B: Copy>(first: Option<A>, second: Option<B>) -> Option<(A, B)>
     ensures { result ≡ specs.both first second }
 {
     match (first, second) {

@@ -14,10 +14,10 @@ use vm_frame::{
 };
 use vm_world::Frame;
 
-const PC: u16 = 10;
+pub(crate) const PC: u16 = 10;
 
 // An int, a long with an L behind it, null, or an object by its number.
-fn value<R: Abort>(rt: &R, word: &str) -> Value {
+pub(crate) fn value<R: Abort>(rt: &R, word: &str) -> Value {
     if word == "null" {
         return Value::Ref(None);
     }
@@ -30,7 +30,7 @@ fn value<R: Abort>(rt: &R, word: &str) -> Value {
     }
 }
 
-fn values<R: Abort + AllocGlobal>(rt: &R, cell: &str) -> List<Value> {
+pub(crate) fn values<R: Abort + AllocGlobal>(rt: &R, cell: &str) -> List<Value> {
     let mut values = List::new(rt.alloc());
     for word in cell.split_whitespace() {
         values.add(value(rt, word)).expect(rt, "memory");
@@ -52,7 +52,7 @@ fn locals<R: Abort + AllocGlobal>(rt: &R, cell: &str) -> List<Option<Value>> {
     locals
 }
 
-fn put<R: Abort>(rt: &R, out: &mut String, local: Option<Value>) {
+pub(crate) fn put<R: Abort>(rt: &R, out: &mut String, local: Option<Value>) {
     match local {
         Some(Value::Int(number)) => write!(out, " {number}"),
         Some(Value::Long(number)) => write!(out, " {number}L"),
@@ -63,7 +63,7 @@ fn put<R: Abort>(rt: &R, out: &mut String, local: Option<Value>) {
     .expect(rt, "memory");
 }
 
-fn shown_stack<R: Abort + AllocGlobal>(rt: &R, stack: &[Value]) -> String {
+pub(crate) fn shown_stack<R: Abort + AllocGlobal>(rt: &R, stack: &[Value]) -> String {
     let mut out = String::new(rt.alloc());
     for value in stack {
         put(rt, &mut out, Some(*value));
@@ -79,7 +79,7 @@ fn shown_locals<R: Abort + AllocGlobal>(rt: &R, locals: &[Option<Value>]) -> Str
     out
 }
 
-fn frame<R: Abort + AllocGlobal>(rt: &R, held: &str, stacked: &str) -> Frame {
+pub(crate) fn frame<R: Abort + AllocGlobal>(rt: &R, held: &str, stacked: &str) -> Frame {
     let alloc = rt.alloc();
     let method = MethodId {
         class: Name::from_text(alloc, "T").expect(rt, "memory"),
@@ -96,7 +96,7 @@ fn frame<R: Abort + AllocGlobal>(rt: &R, held: &str, stacked: &str) -> Frame {
 }
 
 // The instruction of a name and its bytes in hexadecimal, and the pc behind it.
-fn instruction<R: Abort + AllocGlobal>(rt: &R, cell: &str) -> (Instr, u16) {
+pub(crate) fn instruction<R: Abort + AllocGlobal>(rt: &R, cell: &str) -> (Instr, u16) {
     let mut bytes = Vec::new(rt.alloc());
     let mut next = PC;
     for word in cell.split_whitespace().skip(1) {
@@ -127,7 +127,7 @@ fn answer<R: Abort + AllocGlobal>(
     }
 }
 
-fn same<R: Abort>(rt: &R, row: &str, shown: &str, wanted: &str) {
+pub(crate) fn same<R: Abort>(rt: &R, row: &str, shown: &str, wanted: &str) {
     assert!(rt; shown.trim() == wanted, "{row}: {shown}");
 }
 

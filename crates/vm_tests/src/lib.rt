@@ -1,6 +1,10 @@
-//! Tests of the public calls of texts, of the built-in classes, of the state of the machine, of what instructions do to a frame, and of library rows. What they expect of texts was written by the JVM.
+//! Tests of the public calls of texts, of the built-in classes, of the state of the machine, of what instructions do to a frame and to arrays, and of library rows. What they expect of texts was written by the JVM.
 #![tactic(auto)]
 
+#[cfg(test)]
+mod array_rows;
+#[cfg(test)]
+mod arrays;
 #[cfg(test)]
 mod frame_rows;
 #[cfg(test)]

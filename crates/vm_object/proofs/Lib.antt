@@ -1,0 +1,4 @@
+pub mod EffectLemmas
+pub mod StoreLemmas
+pub mod LawLemmas
+pub mod ChangeLemmas

@@ -1,0 +1,11 @@
+pub mod Calls
+pub mod Effects
+pub mod ElementTypes
+pub mod Laws
+pub mod Lengths
+pub mod Loads
+pub mod NewArrays
+pub mod Operands
+pub mod Places
+pub mod Steps
+pub mod Stores
