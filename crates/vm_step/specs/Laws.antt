@@ -7,6 +7,7 @@ use Rattle.cf_code.specs.declared.word.Returned.{Returned}
 use Rattle.vm_world.specs.declared.frame.Frame.{Frame}
 use Rattle.vm_world.specs.declared.state.State.{State}
 use Rattle.vm_step.specs.declared.went.FramesWent.TheVariants.{Next}
+use Rattle.vm_step.specs.Frames.{below}
 use Rattle.vm_step.specs.Handlers.{handler_at, Catches, IsFirstHandler}
 use Rattle.vm_step.specs.Returns.{return_step}
 use Rattle.vm_step.specs.Throws.{thrown, raised}
@@ -55,6 +56,17 @@ pub record KeepsOthers (others : List Frame) (frame : Frame) (frames : List Fram
   pub method : now.method ≡ frame.method
   pub locals : now.locals ≡ frame.locals
   pub initialises : now.initialises ≡ frame.initialises
+
+-- a call leaves the frames below the caller as they were, and the caller at its call
+pub record WaitsAtCall (others : List Frame) (caller : Frame) (frames : List Frame) : Type 0 where
+  pub kept : KeepsOthers others caller (below frames)
+  pub waits : kept.now.pc ≡ caller.pc
+
+abbrev pub CallsKeepOthers : Type 0
+CallsKeepOthers = (method : MethodId) (receiver : Bool) (desc : Desc) (bound : ℕ) (state : State)
+    → (others : List Frame) (caller : Frame) → state.frames ≡ others ++ caller ∷ []
+    → (call_step method receiver desc bound state).0 ≡ Next
+    → WaitsAtCall others caller (call_step method receiver desc bound state).1.frames
 
 -- a return leaves the frames below the caller as they were
 abbrev pub ReturnsKeepOthers : Type 0
