@@ -30,7 +30,7 @@ fn value<R: Abort>(rt: &R, word: &str) -> Value {
     }
 }
 
-fn values<R: Abort + AllocGlobal>(rt: &R, cell: &str) -> List<Value> {
+pub(crate) fn values<R: Abort + AllocGlobal>(rt: &R, cell: &str) -> List<Value> {
     let mut values = List::new(rt.alloc());
     for word in cell.split_whitespace() {
         values.add(value(rt, word)).expect(rt, "memory");
@@ -39,7 +39,7 @@ fn values<R: Abort + AllocGlobal>(rt: &R, cell: &str) -> List<Value> {
 }
 
 // What locals hold, and - for nothing.
-fn locals<R: Abort + AllocGlobal>(rt: &R, cell: &str) -> List<Option<Value>> {
+pub(crate) fn locals<R: Abort + AllocGlobal>(rt: &R, cell: &str) -> List<Option<Value>> {
     let mut locals = List::new(rt.alloc());
     for word in cell.split_whitespace() {
         let local = if word == "-" {
@@ -63,7 +63,7 @@ fn put<R: Abort>(rt: &R, out: &mut String, local: Option<Value>) {
     .expect(rt, "memory");
 }
 
-fn shown_stack<R: Abort + AllocGlobal>(rt: &R, stack: &[Value]) -> String {
+pub(crate) fn shown_stack<R: Abort + AllocGlobal>(rt: &R, stack: &[Value]) -> String {
     let mut out = String::new(rt.alloc());
     for value in stack {
         put(rt, &mut out, Some(*value));
@@ -71,7 +71,7 @@ fn shown_stack<R: Abort + AllocGlobal>(rt: &R, stack: &[Value]) -> String {
     out
 }
 
-fn shown_locals<R: Abort + AllocGlobal>(rt: &R, locals: &[Option<Value>]) -> String {
+pub(crate) fn shown_locals<R: Abort + AllocGlobal>(rt: &R, locals: &[Option<Value>]) -> String {
     let mut out = String::new(rt.alloc());
     for local in locals {
         put(rt, &mut out, *local);
