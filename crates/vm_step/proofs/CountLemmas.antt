@@ -42,14 +42,18 @@ caller_count None value (Some caller) state = omega arith
 caller_count (Some pc) value (Some caller) state =
     omega (arith, same_count (given pc value) (below state.frames), no_more_below state.frames)
 
+-- a return that gives something, by whether the frame is an initialiser
+abbrev pub by_kind : Option ℕ → Frame → Option Value → State → Bool → FramesWent × State
+by_kind behind frame value state b =
+    if b then initialised frame state else to_caller behind value (running (below state.frames)) state
+
 given_count : (behind : Option ℕ) (frame : Frame) (o : Option (Option Value)) (state : State)
     → length (return_given behind frame o state).1.frames ≤ length state.frames
 given_count behind frame None state = omega arith
 given_count behind frame (Some value) state = by_case frame.initialises
   where
     by_case : (b : Bool)
-        → length (if b then initialised frame state else to_caller behind value (running (below state.frames)) state).1.frames
-        ≤ length state.frames
+        → length (by_kind behind frame value state b).1.frames ≤ length state.frames
     by_case true = no_more_below state.frames
     by_case false = caller_count behind value (running (below state.frames)) state
 

@@ -16,7 +16,7 @@ use Rattle.vm_step.specs.Handlers.{entered}
 use Rattle.vm_step.specs.Throws.{without_frame, thrown}
 use Rattle.vm_step.specs.Invocations.{taken, called, call_given, arguments_in, call_step}
 use Rattle.vm_step.specs.Laws.{KeepsOthers, WaitsAtCall}
-use Rattle.vm_step.proofs.CountLemmas.{within_bound}
+use Rattle.vm_step.proofs.CountLemmas.{within_bound, by_kind}
 use Rattle.vm_step.proofs.FrameLemmas.{below_push, running_push, with_running_push}
 
 -- frames of which the running one has another pc or stack
@@ -50,9 +50,8 @@ module _ (behind : Option ℕ) (state : State) (others : List Frame) (caller fra
   given_kept under (Some value) next = by_case frame.initialises next
     where
       by_case : (b : Bool)
-          → (if b then initialised frame state else to_caller behind value (running (below state.frames)) state).0 ≡ Next
-          → KeepsOthers others caller
-          (if b then initialised frame state else to_caller behind value (running (below state.frames)) state).1.frames
+          → (by_kind behind frame value state b).0 ≡ Next
+          → KeepsOthers others caller (by_kind behind frame value state b).1.frames
       by_case true h = record { now = caller; are = under; method = refl; locals = refl; initialises = refl }
       by_case false h =
           caller_kept under value (running (below state.frames)) (ap running under ∙ running_push others caller) h
@@ -80,8 +79,7 @@ module _ (state : State) (others : List Frame) (frame : Frame) (are : state.fram
   initialiser_given behind (Some value) is next = by_case frame.initialises is
     where
       by_case : (b : Bool) → b ≡ true
-          → (if b then initialised frame state else to_caller behind value (running (below state.frames)) state).1.frames
-          ≡ others
+          → (by_kind behind frame value state b).1.frames ≡ others
       by_case true h = ap below are ∙ below_push others frame
       by_case false h = absurd cc
 

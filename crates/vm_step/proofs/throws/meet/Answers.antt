@@ -14,5 +14,6 @@ pub returns-in-Some : goal.returns-in-Some
 returns-in-Some c =
     let only = c.set.ensures ∙ set_only c.args.stack (Ref (Some c.args.number)) c.requires in
     let change : List Value → Frame → Frame = λ stack frame. record frame { pc = c.in-Some.pc; stack = stack } in
-    let entered = c.enter_running.ensures ∙ ap (λ (l : List Value). with_running (change l) c.args.state.now.frames) only in
+    let entered = c.enter_running.ensures
+    ∙ ap (λ (l : List Value). with_running (change l) c.args.state.now.frames) only in
     rw c.in-Some.is (ap (λ (l : List Frame). record c.args.state.now { frames = l; thrown = None }) entered)
