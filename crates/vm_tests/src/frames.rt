@@ -39,7 +39,7 @@ pub(crate) fn values<R: Abort + AllocGlobal>(rt: &R, cell: &str) -> List<Value> 
 }
 
 // What locals hold, and - for nothing.
-fn locals<R: Abort + AllocGlobal>(rt: &R, cell: &str) -> List<Option<Value>> {
+pub(crate) fn locals<R: Abort + AllocGlobal>(rt: &R, cell: &str) -> List<Option<Value>> {
     let mut locals = List::new(rt.alloc());
     for word in cell.split_whitespace() {
         let local = if word == "-" {
@@ -71,7 +71,7 @@ pub(crate) fn shown_stack<R: Abort + AllocGlobal>(rt: &R, stack: &[Value]) -> St
     out
 }
 
-fn shown_locals<R: Abort + AllocGlobal>(rt: &R, locals: &[Option<Value>]) -> String {
+pub(crate) fn shown_locals<R: Abort + AllocGlobal>(rt: &R, locals: &[Option<Value>]) -> String {
     let mut out = String::new(rt.alloc());
     for local in locals {
         put(rt, &mut out, *local);

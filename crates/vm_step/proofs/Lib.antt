@@ -1,0 +1,5 @@
+pub mod ArgumentLemmas
+pub mod CountLemmas
+pub mod FrameLemmas
+pub mod HandlerLemmas
+pub mod KeptLemmas

@@ -1,0 +1,21 @@
+-- The frames (JVM Specification SE 8, 2.6), of which the running one is the last.
+use Rattle.std.specs.Prelude.{ℕ, List, ◌++◌, map, option_to_list, Option}
+use Rattle.jv_base.specs.declared.value.Value.{Value}
+use Rattle.vm_world.specs.declared.frame.Frame.{Frame}
+use Rattle.vm_frame.specs.Operands.{top, without}
+
+-- the running frame, where there is one
+abbrev pub running : List Frame → Option Frame
+running frames = top frames
+
+-- the frames below it
+abbrev pub below : List Frame → List Frame
+below frames = without 1 frames
+
+-- the frames with the running one changed, where there is one
+abbrev pub with_running : (Frame → Frame) → List Frame → List Frame
+with_running change frames = below frames ++ map change (option_to_list (running frames))
+
+-- the frame at a pc, with a value on its stack, where there is one
+abbrev pub given : ℕ → Option Value → Frame → Frame
+given pc value frame = record frame { pc = pc; stack = frame.stack ++ option_to_list value }
