@@ -7,7 +7,6 @@ use Rattle.jv_base.specs.declared.method.FieldId.{FieldId}
 use Rattle.jv_base.specs.declared.input.Tree.{Tree}
 use Rattle.jv_base.specs.declared.input.Tree.TheOpen.{Tree-F, Part-F}
 use Rattle.jv_base.specs.declared.input.Tree.TheFolds.{fold-Tree}
-use Rattle.jv_base.specs.declared.input.Part.{Part}
 use Rattle.serde_json.specs.Data.{Data, null, boolean, number, array, object, Members, no_members, member, put}
 use Rattle.serde_json.specs.Find.{of_integer}
 use Rattle.serde_json.specs.View.{items_of}

@@ -4,7 +4,9 @@ ghost use Rattle.jv_base.specs.Descriptor.{field_text, IsMethodDescriptor};
 ghost use Rattle.jv_base.specs.Types.{field_of, method_of};
 ghost use Rattle.tr_inputs.specs.Arguments.{receiver_type, argument_types, AreArgumentTypes};
 
-use jv_base::{Desc, List, Mem, MethodId, Name, TextFault, Ty, field_type_text, one_form, read_descriptor};
+use jv_base::{
+    Desc, List, Mem, MethodId, Name, TextFault, Ty, field_type_text, one_form, read_descriptor,
+};
 use std::alloc::{AllocError, Global};
 
 fn receiver_type(alloc: Global, entry: &MethodId) -> Mem<Name>
