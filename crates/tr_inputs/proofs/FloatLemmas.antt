@@ -8,11 +8,13 @@ use Rattle.jv_base.specs.declared.input.Input.{Input}
 use Rattle.jv_base.specs.declared.input.Part.{Part, roll-Part}
 use Rattle.jv_base.specs.declared.input.Tree.{Tree, roll-Tree}
 use Rattle.jv_base.specs.declared.input.Tree.TheOpen.{Tree-F, Part-F}
-use Rattle.jv_base.specs.declared.input.Tree.TheFolds.{fold-Part, fold-roll-Tree, fold-roll-Part, ind-Tree, map-Tree, map-Part}
+use Rattle.jv_base.specs.declared.input.Tree.TheFolds.{fold-Part, fold-roll-Tree, fold-roll-Part, ind-Tree}
+use Rattle.jv_base.specs.declared.input.Tree.TheFolds.{map-Tree, map-Part}
 use Rattle.serde_json.specs.Data.{Data, boolean, array, object, Members, no_members, member, put}
 use Rattle.serde_json.specs.View.{items_of}
 use Rattle.serde_json.specs.Written.{has_float, items_have_float, members_have_float}
-use Rattle.tr_inputs.specs.Values.{Typed, integer, int_value, truth, level_value, field_value, tree_value, values_of, put_all, members_in_order, element_type}
+use Rattle.tr_inputs.specs.Values.{Typed, integer, int_value, truth, level_value, field_value, tree_value, values_of}
+use Rattle.tr_inputs.specs.Values.{put_all, members_in_order, element_type}
 use Rattle.tr_inputs.specs.Texts.{arguments_value, input_value}
 
 whole : (n : ℤ) → has_float (integer n) ≡ false
@@ -38,10 +40,11 @@ put_by Less key value k d ms v m later = or_from (has_float value) (members_have
 put_by Equal key value k d ms v m later =
     or_from (has_float value) (members_have_float ms) v (or_parts (has_float d) (members_have_float ms) m).1
 put_by Greater key value k d ms v m later =
-    or_from (has_float d) (members_have_float (put key value ms)) (or_parts (has_float d) (members_have_float ms) m).0 later
+    or_from (has_float d) (members_have_float (put key value ms)) (or_parts (has_float d) (members_have_float ms) m).0
+    later
 
-put_whole : (key : List ℕ) (value : Data) (members : Members) → has_float value ≡ false → members_have_float members ≡ false
-    → members_have_float (put key value members) ≡ false
+put_whole : (key : List ℕ) (value : Data) (members : Members) → has_float value ≡ false
+    → members_have_float members ≡ false → members_have_float (put key value members) ≡ false
 put_whole key value no_members v m = or_from (has_float value) false v refl
 put_whole key value (member k d ms) v m =
     put_by (slice_cmp nat_cmp key k) key value k d ms v m
@@ -92,10 +95,12 @@ level_whole (Tree-F.Int n) desc = rolled (Tree-F.Int n) desc ∙ int_whole n des
 level_whole (Tree-F.Long n) desc = rolled (Tree-F.Long n) desc ∙ whole n
 level_whole Tree-F.Null desc = rolled Tree-F.Null desc
 level_whole (Tree-F.Text units) desc =
-    rolled (Tree-F.Text units) desc ∙ only (array (items_of (map (λ unit. integer (pos unit)) units))) (units_whole units)
+    rolled (Tree-F.Text units) desc
+    ∙ only (array (items_of (map (λ unit. integer (pos unit)) units))) (units_whole units)
 level_whole (Tree-F.Array trees) desc =
     rolled (Tree-F.Array (map (λ e. e.0) trees)) desc
-    ∙ only (array (items_of (values_of (map (λ e. e.0) trees) (element_type desc)))) (trees_whole trees (element_type desc))
+    ∙ only (array (items_of (values_of (map (λ e. e.0) trees) (element_type desc))))
+    (trees_whole trees (element_type desc))
 level_whole (Tree-F.Object parts) desc =
     rolled (Tree-F.Object (map (λ e. e.0) parts)) desc
     ∙ only (object (members_in_order (map part_value (map (λ e. e.0) parts)))) (parts_whole parts no_members refl)

@@ -12,4 +12,5 @@ pub array_value : (trees : List Tree) (desc : List ℕ) →
     tree_value (Array trees) desc ≡ only_member (codes "array") (array (items_of (values_of trees (element_type desc))))
 array_value trees desc =
     ap (λ tree. tree_value tree desc) (sym (rolls-Array trees))
-    ∙ ap (λ (value : Typed). value desc) (fold-roll-Tree Typed (List ℕ × Data) level_value field_value (Tree-F.Array trees))
+    ∙ ap (λ (value : Typed). value desc)
+    (fold-roll-Tree Typed (List ℕ × Data) level_value field_value (Tree-F.Array trees))

@@ -12,7 +12,7 @@ use Rattle.tr_inputs.proofs.text.arguments_value.Goals as goal
 pub returns : goal.returns
 returns c =
     let l = c.loop-tree in
-    let all = all_told (map view l.values.items) (iter_rest (zip_first l.tree-iterator)) (iter_rest (zip_second l.tree-iterator))
-    (told c.args.args.now c.args.types.now) l.invariant
+    let all = all_told (map view l.values.items) (iter_rest (zip_first l.tree-iterator))
+    (iter_rest (zip_second l.tree-iterator)) (told c.args.args.now c.args.types.now) l.invariant
     (either_empty_from_Zip l.tree-iterator c.next.new.self c.next.result c.in-None.is c.next.ensures.steps) in
     view-Array l.values ∙ ap (λ ds. array (items_of ds)) all
