@@ -1,0 +1,11 @@
+-- The text is that of a value without floats.
+use Rattle.std.proofs.Common.{rules}
+use Rattle.tr_inputs.specs.Texts.{text_by}
+use Rattle.tr_inputs.proofs.FloatLemmas.{input_whole}
+use Rattle.tr_inputs.proofs.text.text_by.Goals as goal
+
+pub returns : goal.returns
+unfolding text_by
+returns c =
+    let no_float = input_whole c.args.input.now c.args.types.now in
+    search (rules, no_float)

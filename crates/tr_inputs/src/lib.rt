@@ -1,0 +1,8 @@
+//! Inputs as JSON.
+#![tactic(auto)]
+
+mod arguments;
+mod text;
+mod tree;
+
+pub use text::input_text;
