@@ -1,7 +1,6 @@
 -- What instructions on arrays change of the heap.
-use Rattle.std.proofs.Common.{◌≡◌, ◌≢◌, ℕ, ◌+◌, ◌-◌, ℤ, pos, List, [], ◌∷◌, ◌++◌}
-use Rattle.std.proofs.Common.{length, replicate, Option, Some, None, refl, sym, ap, ◌∙◌, subst, arith}
-use Rattle.std.proofs.Common.{length-append, inl, inr}
+use Rattle.std.proofs.Common.{◌≡◌, ◌≢◌, ℕ, ◌+◌, ◌-◌, ℤ, pos, List, [], ◌∷◌, ◌++◌, inl, inr}
+use Rattle.std.proofs.Common.{length, replicate, Option, Some, None, refl, sym, ap, ◌∙◌, subst, arith, length-append}
 use Rattle.std.specs.Option.{option_map}
 use Rattle.std.proofs.lemmas.Bool.{cases_eq, cond-true}
 use Rattle.std.proofs.lemmas.Option.{same_Some, slice_get_within, slice_get-get_or, slice_get_past}
@@ -98,10 +97,8 @@ module _ (last : NewIsLast) (others : NewKeepsOthers) (next : ℕ) (frame : Fram
     new_is_filled wanted bound (Gives k v) h is e = absurd h
     new_is_filled wanted bound (Makes made k v) h is e =
         let name : made ≡ descriptor = same_Some made descriptor (sym h.name ∙ is) in
-        let one_type : h.held ≡ held =
-        same_Some h.held held (sym h.type_is ∙ ap element_type name ∙ type_is) in
-        let size : pos k ≡ pos n = same_Some (pos k) (pos n) (sym h.count ∙ count) in
-        let same : k ≡ n = ap unsigned_abs size in
+        let one_type : h.held ≡ held = same_Some h.held held (sym h.type_is ∙ ap element_type name ∙ type_is) in
+        let same : k ≡ n = ap unsigned_abs (same_Some (pos k) (pos n) (sym h.count ∙ count)) in
         let value : v ≡ default_value held = h.value ∙ ap default_value one_type in
         let read : element_at (heap ++ ArrayObject made (replicate k v) ∷ []) (length heap + 1) place
         ≡ slice_get (replicate k v) place =
@@ -254,10 +251,9 @@ module _ (one : ChangesOne) (no_other : ChangesNoOther) (e : Element) (next : �
   store_keeps_others (Gives n v) w other ne = refl
   store_keeps_others (Makes descriptor n v) w other ne = absurd w
   store_keeps_others (Puts number place v) w other ne =
-      let same : w.operands ≡ operands = same_operands w in
       no_other heap number other (λ object. with_element object place v)
       (λ (is : other ≡ number).
-      ne (ap (λ (o : StoreOperands). o.array) (sym same) ∙ w.array ∙ ap (λ (n : ℕ). Some n) (sym is)))
+      ne (ap (λ (o : StoreOperands). o.array) (sym (same_operands w)) ∙ w.array ∙ ap (λ (n : ℕ). Some n) (sym is)))
   store_keeps_others (Raises kind) w other ne = refl
   store_keeps_others Sticks w other ne = refl
   store_keeps_others Leaves w other ne = refl
@@ -268,13 +264,12 @@ module _ (one : ChangesOne) (no_other : ChangesNoOther) (e : Element) (next : �
       × (element_descriptor (done next effect frame heap).2 number ≡ element_descriptor heap number)
   store_keeps_elements (Gives n v) w number place ne = (refl, refl)
   store_keeps_elements (Makes descriptor n v) w number place ne = absurd w
-  store_keeps_elements (Puts array stored v) w number place ne =
-      let same : w.operands ≡ operands = same_operands w in (
-        elements_kept one no_other heap array stored v number place
-            (λ (is : place ≡ stored).
-            ne (ap (λ (o : StoreOperands). o.index) (sym same) ∙ w.index ∙ ap (λ (n : ℕ). pos n) (sym is))),
-        types_kept one no_other heap array stored v number,
-      )
+  store_keeps_elements (Puts array stored v) w number place ne = (
+    elements_kept one no_other heap array stored v number place
+        (λ (is : place ≡ stored).
+        ne (ap (λ (o : StoreOperands). o.index) (sym (same_operands w)) ∙ w.index ∙ ap (λ (n : ℕ). pos n) (sym is))),
+    types_kept one no_other heap array stored v number,
+  )
   store_keeps_elements (Raises kind) w number place ne = (refl, refl)
   store_keeps_elements Sticks w number place ne = (refl, refl)
   store_keeps_elements Leaves w number place ne = (refl, refl)
@@ -291,8 +286,7 @@ module _ (one : ChangesOne) (no_other : ChangesNoOther) (e : Element) (next : �
         let same : w.operands ≡ operands = same_operands w in
         let one_array : n ≡ number =
         same_Some n number (sym w.array ∙ ap (λ (o : StoreOperands). o.array) same ∙ array) in
-        let one_type : w.held ≡ held =
-        same_Some w.held held
+        let one_type : w.held ≡ held = same_Some w.held held
         (sym w.type_is ∙ ap (λ (k : ℕ). taken e (element_descriptor heap k)) one_array ∙ type_is) in
         loaded_after one no_other heap n place v e frame.stack over w
         (given ∙ ap (λ (o : StoreOperands). Some (o.array, o.index)) (sym same))

@@ -68,11 +68,11 @@ module _ (setting : Setting) (stack : List Value) (heap : List Object) where
   effect_meets (Store e) =
       meets_writes e stack heap (store_effect e setting.suits stack heap) (store_writes e setting.suits stack heap)
   effect_meets (New code) =
-      meets_makes (New code) (type_text code) setting.bound stack (make_effect (type_text code) setting.bound stack) refl
-      (make_makes (type_text code) setting.bound stack)
+      meets_makes (New code) (type_text code) setting.bound stack (make_effect (type_text code) setting.bound stack)
+      refl (make_makes (type_text code) setting.bound stack)
   effect_meets (NewOf index) =
-      meets_makes (NewOf index) setting.element setting.bound stack (make_effect setting.element setting.bound stack) refl
-      (make_makes setting.element setting.bound stack)
+      meets_makes (NewOf index) setting.element setting.bound stack (make_effect setting.element setting.bound stack)
+      refl (make_makes setting.element setting.bound stack)
   effect_meets (NewMany index dimensions) = tt
   effect_meets Length = meets_reads Length stack (length_effect stack heap) (length_reads stack heap)
 

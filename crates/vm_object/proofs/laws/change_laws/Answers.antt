@@ -4,8 +4,8 @@ use Rattle.vm_object.specs.Stores.{store_effect}
 use Rattle.vm_object.specs.Lengths.{length_effect}
 use Rattle.vm_object.proofs.EffectLemmas.{load_reads, length_reads}
 use Rattle.vm_object.proofs.StoreLemmas.{store_writes}
-use Rattle.vm_object.proofs.ChangeLemmas.{read_keeps, named_is_next, named_is_filled, store_keeps_others, store_keeps_elements}
-use Rattle.vm_object.proofs.ChangeLemmas.{store_is_loaded}
+use Rattle.vm_object.proofs.ChangeLemmas.{read_keeps, named_is_next, named_is_filled, store_keeps_others}
+use Rattle.vm_object.proofs.ChangeLemmas.{store_keeps_elements, store_is_loaded}
 use Rattle.vm_object.proofs.laws.change_laws.Goals as goal
 
 pub returns-clause-reads : goal.returns-clause-reads
