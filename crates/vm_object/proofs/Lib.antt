@@ -2,3 +2,4 @@ pub mod EffectLemmas
 pub mod StoreLemmas
 pub mod LawLemmas
 pub mod ChangeLemmas
+mod StandardFacts
