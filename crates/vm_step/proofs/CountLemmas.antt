@@ -13,7 +13,7 @@ use Rattle.vm_world.specs.declared.state.State.{State}
 use Rattle.vm_world.specs.Start.{entry_frame}
 use Rattle.vm_step.specs.declared.went.FramesWent.{FramesWent}
 use Rattle.vm_step.specs.declared.went.FramesWent.TheVariants.{Next, Left}
-use Rattle.vm_step.specs.Frames.{running, below, with_running, given}
+use Rattle.vm_step.specs.Frames.{running, below, with_running, given, executed, gone_on}
 use Rattle.vm_step.specs.Returns.{initialised, to_caller, return_given, return_from, return_step, result_given}
 use Rattle.vm_step.specs.Handlers.{entered}
 use Rattle.vm_step.specs.Throws.{without_frame, thrown}
@@ -32,6 +32,10 @@ same_count change frames = elim (split_running frames) [
 
 no_more_below : (frames : List Frame) → length (below frames) ≤ length frames
 no_more_below frames = omega (arith, length-take-le (length frames - 1) frames (omega arith))
+
+pub going_on_count : (pc count : ℕ) (value : Option Value) (state : State)
+    → length (gone_on pc count value state).frames ≤ length state.frames
+going_on_count pc count value state = omega (arith, same_count (executed pc count value) state.frames)
 
 -- ---- returns
 

@@ -10,8 +10,8 @@ use Rattle.vm_world.specs.declared.frame.Frame.{Frame}
 use Rattle.vm_world.specs.declared.state.State.{State}
 use Rattle.vm_world.specs.Start.{entry_frame}
 use Rattle.vm_step.specs.declared.went.FramesWent.TheVariants.{Next}
-use Rattle.vm_step.specs.Frames.{running, below, with_running, given}
-use Rattle.vm_step.specs.Returns.{initialised, to_caller, return_given, return_from, return_step, result_given}
+use Rattle.vm_step.specs.Frames.{running, below, with_running, given, executed, gone_on}
+use Rattle.vm_step.specs.Returns.{to_caller, return_given, return_from, return_step, result_given}
 use Rattle.vm_step.specs.Handlers.{entered}
 use Rattle.vm_step.specs.Throws.{without_frame, thrown}
 use Rattle.vm_step.specs.Invocations.{taken, called, call_given, arguments_in, call_step}
@@ -93,6 +93,10 @@ module _ (state : State) (others : List Frame) (frame : Frame) (are : state.fram
 
   pub handler_kept : (handler number : ℕ) → KeepsOthers others frame (thrown (Some handler) number state).frames
   handler_kept handler number = changed (entered handler number) others frame state.frames are refl refl refl
+
+  pub going_on_kept : (pc count : ℕ) (value : Option Value)
+      → KeepsOthers others frame (gone_on pc count value state).frames
+  going_on_kept pc count value = changed (executed pc count value) others frame state.frames are refl refl refl
 
   dropped_is : (b : Bool) → frame.initialises ≡ b
       → without_frame (Some frame) state.frames ≡ (if b then [] else below state.frames)

@@ -2,12 +2,13 @@
 use Rattle.std.specs.Prelude.{◌≡◌, ℕ, ◌+◌, ◌≤◌, Bool, true, false, List, [], ◌∷◌, ◌++◌, length, Option, Some, None, All}
 use Rattle.jv_base.specs.declared.method.MethodId.{MethodId}
 use Rattle.jv_base.specs.declared.value.Desc.{Desc}
+use Rattle.jv_base.specs.declared.value.Value.{Value}
 use Rattle.cf_code.specs.declared.transfer.Row.{Row}
 use Rattle.cf_code.specs.declared.word.Returned.{Returned}
 use Rattle.vm_world.specs.declared.frame.Frame.{Frame}
 use Rattle.vm_world.specs.declared.state.State.{State}
 use Rattle.vm_step.specs.declared.went.FramesWent.TheVariants.{Next}
-use Rattle.vm_step.specs.Frames.{below}
+use Rattle.vm_step.specs.Frames.{below, gone_on}
 use Rattle.vm_step.specs.Handlers.{handler_at, Catches, IsFirstHandler}
 use Rattle.vm_step.specs.Returns.{return_step}
 use Rattle.vm_step.specs.Throws.{thrown, raised}
@@ -34,6 +35,10 @@ ThrowsMakeNoMore = (handler : Option ℕ) (number : ℕ) (state : State)
 abbrev pub RaisesMakeNoMore : Type 0
 RaisesMakeNoMore = (class : List ℕ) (handler : Option ℕ) (state : State)
     → length (raised class handler state).frames ≤ length state.frames
+
+abbrev pub GoingOnMakesNoMore : Type 0
+GoingOnMakesNoMore = (pc count : ℕ) (value : Option Value) (state : State)
+    → length (gone_on pc count value state).frames ≤ length state.frames
 
 -- ---- handlers
 
@@ -86,6 +91,11 @@ InitialisersKeepAll = (returned : Returned) (desc : Desc) (behind : Option ℕ) 
 abbrev pub HandlersKeepOthers : Type 0
 HandlersKeepOthers = (handler number : ℕ) (state : State) (others : List Frame) (frame : Frame)
     → state.frames ≡ others ++ frame ∷ [] → KeepsOthers others frame (thrown (Some handler) number state).frames
+
+-- a frame that goes on keeps its locals, and the frames below it are as they were
+abbrev pub GoingOnKeepsOthers : Type 0
+GoingOnKeepsOthers = (pc count : ℕ) (value : Option Value) (state : State) (others : List Frame) (frame : Frame)
+    → state.frames ≡ others ++ frame ∷ [] → KeepsOthers others frame (gone_on pc count value state).frames
 
 -- a frame that is dropped leaves those below it as they were
 abbrev pub DropsKeepOthers : Type 0

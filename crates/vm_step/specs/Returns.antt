@@ -32,13 +32,13 @@ result_given (returns.Value word) None stack = None
 result_given (returns.Value word) (Some type) stack = typed word type (top stack)
 
 -- a return from an initialiser: its class is done, and the frame below executes its instruction again
-abbrev pub still : List Frame → FramesWent
-still [] = Ended
-still (frame ∷ frames) = Next
+abbrev pub went_below : List Frame → FramesWent
+went_below [] = Ended
+went_below (frame ∷ frames) = Next
 
 abbrev pub initialised : Frame → State → FramesWent × State
 initialised frame state = (
-  still (below state.frames),
+  went_below (below state.frames),
   record state { frames = below state.frames; classes = with_stage state.classes frame.method.class Done },
 )
 

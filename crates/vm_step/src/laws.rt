@@ -1,5 +1,6 @@
 // Laws of the definitions, each a clause of a function that does nothing.
 ghost use Rattle.vm_step.specs.Laws.{CallsMakeOneMore, ReturnsMakeNoMore, ThrowsMakeNoMore, RaisesMakeNoMore};
+ghost use Rattle.vm_step.specs.Laws.{GoingOnMakesNoMore, GoingOnKeepsOthers};
 ghost use Rattle.vm_step.specs.Laws.{FirstIsFound, NoneCatches, CallsKeepOthers, ReturnsKeepOthers, InitialisersKeepAll};
 ghost use Rattle.vm_step.specs.Laws.{HandlersKeepOthers, DropsKeepOthers, InitialisersEnd};
 
@@ -9,6 +10,7 @@ pub fn count_laws()
     ensures returns { ReturnsMakeNoMore }
     ensures throws { ThrowsMakeNoMore }
     ensures raises { RaisesMakeNoMore }
+    ensures on { GoingOnMakesNoMore }
 {}
 
 /// Which handler is found.
@@ -23,6 +25,7 @@ pub fn kept_laws()
     ensures returns { ReturnsKeepOthers }
     ensures initialisers { InitialisersKeepAll }
     ensures handlers { HandlersKeepOthers }
+    ensures on { GoingOnKeepsOthers }
     ensures drops { DropsKeepOthers }
     ensures end { InitialisersEnd }
 {}

@@ -12,6 +12,7 @@ mod went;
 mod word;
 
 pub use arguments::call_arguments;
+pub use frames::go_on;
 pub use handlers::{handler_at, holds};
 pub use invocations::call_step;
 pub use laws::{count_laws, handler_laws, kept_laws};

@@ -37,8 +37,8 @@ fn result_given(returned: Returned, ty: &Option<Ty>, stack: &[Value]) -> Option<
 }
 
 /// What comes of a return from an initialiser, by the frames that are left.
-fn still(frames: &[Frame]) -> FramesWent
-    ensures { result ≡ specs.still frames.now }
+fn went_below(frames: &[Frame]) -> FramesWent
+    ensures { result ≡ specs.went_below frames.now }
 {
     if frames.is_empty() {
         FramesWent::Ended
@@ -55,7 +55,7 @@ fn end_initialiser(state: &mut State) -> FramesWent
         let _ = state.classes.put(&frame.method.class, Stage::Done);
     }
     take_off(&mut state.frames);
-    still(state.frames.as_slice())
+    went_below(state.frames.as_slice())
 }
 
 /// Goes on in the caller, behind its call. For want of memory the state stays.

@@ -6,7 +6,7 @@ use jv_base::{Desc, Kind, List, MethodId, Name, Value, read_descriptor};
 use std::fmt::Write;
 use std::process::Abort;
 use vm_step::{
-    FramesWent, Thrown, athrow_effect, call_arguments, call_step, count_laws, handler_at,
+    FramesWent, Thrown, athrow_effect, call_arguments, call_step, count_laws, go_on, handler_at,
     handler_laws, has_word, holds, kept_laws, raise, return_step, throw, word_of,
 };
 use vm_world::{ClassState, Fields, Frame, Object, Stage, State};
@@ -366,6 +366,33 @@ fn a_call_puts_its_arguments_into_locals(rt: HostRuntime) {
             &mut state,
         );
         assert!(rt; word(answer.expect(&rt, "memory")) == went, "{row}");
+        same(&rt, row, &state, wanted);
+    }
+}
+
+// The pc behind an instruction, how many values it takes, the one that it gives, the frames, and the frames after it.
+const GOING_ON: &str = "
+13 | 2 | 7 | m@10 / 1 / 5 6 8 | m@13 / 1 / 5 7
+13 | 0 | 7 | m@10 / 1 2L - / 5 | m@13 / 1 2L - / 5 7
+13 | 1 | | m@10 / / 5 6 | m@13 / / 5
+13 | 0 | | m@10 / / 5 | m@13 / / 5
+13 | 3 | 9L | m@10 / / 5 6 8 | m@13 / / 9L
+13 | 1 | null | k@1 / 2 / 3 ; m@10 / / #1 | k@1 / 2 / 3 ; m@13 / / null
+13 | 0 | 7 | k@1 / / ; !c@10 / / | k@1 / / ; !c@13 / / 7
+13 | 0 | 7 | |
+";
+
+#[test]
+fn an_instruction_goes_on_with_its_value(rt: HostRuntime) {
+    for row in &rows(&rt, GOING_ON) {
+        let (pc, rest) = cell(&rt, row);
+        let (taken, rest) = cell(&rt, rest);
+        let (given, rest) = cell(&rt, rest);
+        let (frames, wanted) = cell(&rt, rest);
+        let taken = taken.parse::<usize>().expect(&rt, "a number");
+        let given = values(&rt, given).last().copied();
+        let mut state = state(&rt, frames);
+        go_on(rt.alloc(), pc_of(&rt, pc), taken, given, &mut state).expect(&rt, "memory");
         same(&rt, row, &state, wanted);
     }
 }
