@@ -1,7 +1,6 @@
 -- Trees as JSON values, each by the descriptor of its type (JVM Specification SE 8, 4.3.2).
-use Rattle.std.specs.Prelude.{ℕ, ℤ, pos, suc, zero, negsuc, Bool, true, false, List, [], ◌∷◌, ◌++◌, map, drop, codes, if◌then◌else◌}
+use Rattle.std.specs.Prelude.{ℕ, ℤ, pos, suc, zero, negsuc, Bool, true, false, List, [], ◌∷◌, ◌++◌, map, drop, codes, nat_eq, if◌then◌else◌}
 use Rattle.std.specs.Cmp.Lexicographic.{pointwise}
-use Rattle.std.specs.Prelude.{nat_eq}
 use Rattle.jv_base.specs.Spelling.{name_text}
 use Rattle.jv_base.specs.declared.method.FieldId.{FieldId}
 use Rattle.jv_base.specs.declared.input.Tree.{Tree}

@@ -2,7 +2,7 @@
 ghost use Rattle.std.specs.Prelude.{◌≡◌, IfOk, string_bytes};
 ghost use Rattle.serde_json.specs.View.{view};
 ghost use Rattle.jv_base.specs.Descriptor.{IsMethodDescriptor};
-ghost use Rattle.tr_inputs.specs.Texts.{arguments_value, input_value, text_by, IsInputText};
+ghost use Rattle.tr_inputs.specs.Texts.{arguments_value, input_value, text_by, IsInputText, ReadsAs, ReadsAsInput};
 
 use crate::arguments::argument_types;
 use crate::tree::tree_value;
@@ -28,7 +28,8 @@ fn input_value(alloc: Global, input: &Input, types: &[Name]) -> Mem<Value>
 }
 
 fn text_by(alloc: Global, input: &Input, types: &[Name]) -> Mem<String>
-    ensures { IfOk result (λ text. string_bytes text ≡ text_by input.now types.now) }
+    ensures value { IfOk result (λ text. string_bytes text ≡ text_by input.now types.now) }
+    ensures reads { IfOk result (λ text. ReadsAs (input_value input.now types.now) (string_bytes text)) }
 {
     let value = input_value(alloc, input, types)?;
     value.to_string(alloc)
@@ -38,7 +39,8 @@ fn text_by(alloc: Global, input: &Input, types: &[Name]) -> Mem<String>
 /// where there is one argument more than the descriptor has parameters.
 pub fn input_text(alloc: Global, input: &Input, entry: &MethodId) -> Mem<Name>
     requires { IsMethodDescriptor entry.now.desc }
-    ensures { IfOk result (IsInputText entry.now input.now) }
+    ensures value { IfOk result (IsInputText entry.now input.now) }
+    ensures reads { IfOk result (ReadsAsInput entry.now input.now) }
 {
     let types = argument_types(alloc, entry, input.args.length())?;
     let text = text_by(alloc, input, types.as_slice())?;
