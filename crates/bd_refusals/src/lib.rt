@@ -1,0 +1,6 @@
+//! What stands in the way of a verdict on what was loaded: the refusals, exactly and in order.
+#![tactic(auto)]
+
+mod refusal;
+
+pub use refusal::Refusal;
