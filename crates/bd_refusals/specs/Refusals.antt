@@ -96,7 +96,7 @@ pub data IsUnsupported (j : Job) (g : Given) (classes : List ClassFile) (m : Met
       → IsField classes at f → HasStatic classes f static → Mismatches access static
       → IsUnsupported j g classes m pc StaticMismatch
   -- a `<clinit>` of an interface is executed (2.9)
-  initialiser : (c : ClassFile) → m ≡ initialiser m.class → pc ≡ 0 → IsDerived j g (Method m)
+  of_interface : (c : ClassFile) → m ≡ initialiser m.class → pc ≡ 0 → IsDerived j g (Method m)
       → HasInitialiser g.classes m.class → IsRead g.classes m.class c → is_interface_class (read c) ≡ true
       → IsUnsupported j g classes m pc InterfaceInitialiser
 
