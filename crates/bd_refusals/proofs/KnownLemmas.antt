@@ -71,31 +71,33 @@ module _ (classes : List ClassFile) (name : List ℕ) where
   pub kind_builtin : (b : Builtin) (found : Bool) → name ≡ class_name b
       → ((a : Builtin) → name ≡ class_name a → Some b ≡ Some a) → found ≡ is_interface b
       → (kind : Bool) → (Some found ≡ Some kind) ↔ HasKind classes name kind
-  kind_builtin b found e only same kind =
-      (λ is. subst (HasKind classes name) (sym same ∙ same_Some found kind is) (of_builtin b e),
-      λ has. ap (λ (k : Bool). Some k) same ∙ back kind has)
-      where
-        back : (k : Bool) → HasKind classes name k → Some (is_interface b) ≡ Some k
-        back _ (of_builtin a f) = ap (λ (x : Builtin). Some (is_interface x)) (same_Some b a (only a f))
-        back _ (of_file c is_read) = absurd (not_both classes name b c e is_read)
+  kind_builtin b found e only same kind = (
+    λ is. subst (HasKind classes name) (sym same ∙ same_Some found kind is) (of_builtin b e),
+    λ has. ap (λ (k : Bool). Some k) same ∙ back kind has,
+  )
+    where
+      back : (k : Bool) → HasKind classes name k → Some (is_interface b) ≡ Some k
+      back _ (of_builtin a f) = ap (λ (x : Builtin). Some (is_interface x)) (same_Some b a (only a f))
+      back _ (of_file c is_read) = absurd (not_both classes name b c e is_read)
 
   pub kind_read : (c : ClassFile) (found : Bool) → IsRead classes name c
       → ((a : Builtin) → name ≡ class_name a → None ≡ Some a) → found ≡ is_interface_class (read c)
       → (kind : Bool) → (Some found ≡ Some kind) ↔ HasKind classes name kind
-  kind_read c found is_read only same kind =
-      (λ is. subst (HasKind classes name) (sym same ∙ same_Some found kind is) (of_file c is_read),
-      λ has. ap (λ (k : Bool). Some k) same ∙ back kind has)
-      where
-        back : (k : Bool) → HasKind classes name k → Some (is_interface_class (read c)) ≡ Some k
-        back _ (of_builtin a f) = absurd (none-some a (only a f))
-        back _ (of_file d other) =
-            ap (λ (x : Known). Some (is_interface_class x))
-            (same_Some (read c) (read d) (sym is_read ∙ other))
+  kind_read c found is_read only same kind = (
+    λ is. subst (HasKind classes name) (sym same ∙ same_Some found kind is) (of_file c is_read),
+    λ has. ap (λ (k : Bool). Some k) same ∙ back kind has,
+  )
+    where
+      back : (k : Bool) → HasKind classes name k → Some (is_interface_class (read c)) ≡ Some k
+      back _ (of_builtin a f) = absurd (none-some a (only a f))
+      back _ (of_file d other) =
+          ap (λ (x : Known). Some (is_interface_class x))
+          (same_Some (read c) (read d) (sym is_read ∙ other))
 
   pub kind_none : read_in classes name ≡ None → ((a : Builtin) → name ≡ class_name a → None ≡ Some a)
       → (kind : Bool) → (None ≡ Some kind) ↔ HasKind classes name kind
   kind_none none only kind = (λ is. absurd (none-some kind is), back kind)
-      where
-        back : (k : Bool) → HasKind classes name k → None ≡ Some k
-        back _ (of_builtin a f) = absurd (none-some a (only a f))
-        back _ (of_file d other) = absurd (none-some d (sym none ∙ ap file_of other))
+    where
+      back : (k : Bool) → HasKind classes name k → None ≡ Some k
+      back _ (of_builtin a f) = absurd (none-some a (only a f))
+      back _ (of_file d other) = absurd (none-some d (sym none ∙ ap file_of other))

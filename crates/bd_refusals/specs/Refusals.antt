@@ -1,6 +1,6 @@
 -- What stands in the way of a verdict, by the sets that the loading rules allow. References are judged over the class files
 -- without those that have unsuited supertypes: a walk that meets one of them, or a class without a file, is not judged.
-use Rattle.std.specs.Prelude.{◌≡◌, ◌⊎◌, ℕ, Bool, true, false, List, Some, Contains}
+use Rattle.std.specs.Prelude.{◌≡◌, ◌⊎◌, ℕ, Bool, true, false, List, Some, None, Contains}
 use Rattle.jv_base.specs.declared.method.MethodId.{MethodId}
 use Rattle.jv_base.specs.declared.method.FieldId.{FieldId}
 use Rattle.cf_code.specs.declared.field.FieldUse.{FieldUse}
@@ -12,6 +12,7 @@ use Rattle.cf_class.specs.Members.{member_in}
 use Rattle.lib_rows.specs.Classes.{class_name, is_interface}
 use Rattle.lib_rows.specs.declared.class.Builtin.{Builtin}
 use Rattle.bd_scan.specs.Descriptors.{has_float}
+use Rattle.bd_scan.specs.Methods.{member_code}
 use Rattle.bd_scan.specs.declared.fact.Fact.{Fact}
 use Rattle.bd_scan.specs.declared.fact.Fact.TheVariants.{Special, Static, Virtual, Reads, Refuse}
 use Rattle.bd_scan.specs.declared.fact.Why.{Why}
@@ -30,7 +31,7 @@ use Rattle.bd_core.specs.declared.item.Unread.TheVariants as unread
 use Rattle.bd_core.specs.declared.job.Job.{Job}
 use Rattle.bd_core.specs.declared.member.Member.TheVariants.{Known, Method}
 use Rattle.bd_core.specs.Given.{Given, IsRead, HasInitialiser, initialiser, static_flag}
-use Rattle.bd_core.specs.Runs.{IsDerived, HasCode}
+use Rattle.bd_core.specs.Runs.{IsDerived}
 use Rattle.bd_core.specs.Told.{Told}
 use Rattle.bd_refusals.specs.Suited.{HasUnsuited, IsCircular}
 use Rattle.bd_refusals.specs.References.{IsUsed, IsCall, IsOfLibrary, IsFixedTarget, IsAskedIn, IsTarget, IsNative}
@@ -38,14 +39,21 @@ use Rattle.bd_refusals.specs.References.{HasStatic, Mismatches}
 use Rattle.bd_refusals.specs.declared.refusal.Refusal.{Refusal}
 use Rattle.bd_refusals.specs.declared.refusal.Refusal.TheVariants as refusals
 
--- the entry cannot be run: its class is built in, or was read and declares no such method with code, or the method wants a
--- receiver and the class is abstract or an interface (4.1, ACC_ABSTRACT and ACC_INTERFACE)
+-- a method wants a receiver, and no object is of the class itself, which is an interface or abstract (4.1, 4.6)
+pub record HasNoObject (c : ClassFile) (m : MemberOf) : Type 0 where
+  pub instance : has_flag m.flags static_flag ≡ false
+  pub no_object : (has_flag c.flags 0x0200 ≡ true) ⊎ (has_flag c.flags 0x0400 ≡ true)
+
+-- a class file declares no such method with code, or the method wants a receiver that there is not
+pub data LacksMethod (c : ClassFile) (entry : MethodId) : Type 0 where
+  no_code : member_code (member_in entry.name entry.desc c.methods) ≡ None → LacksMethod c entry
+  no_receiver : (m : MemberOf) → member_in entry.name entry.desc c.methods ≡ Some m → HasNoObject c m
+      → LacksMethod c entry
+
+-- runs cannot begin at an entry method: its class is built in, or was read and lacks the method
 pub data LacksEntry (classes : List ClassFile) (entry : MethodId) : Type 0 where
   built_in : (b : Builtin) → entry.class ≡ class_name b → LacksEntry classes entry
-  no_code : (c : ClassFile) → IsRead classes entry.class c → (HasCode classes entry → ⊥) → LacksEntry classes entry
-  no_object : (c : ClassFile) (m : MemberOf) → IsRead classes entry.class c
-      → member_in entry.name entry.desc c.methods ≡ Some m → has_flag m.flags static_flag ≡ false
-      → (has_flag c.flags 0x0200 ≡ true) ⊎ (has_flag c.flags 0x0400 ≡ true) → LacksEntry classes entry
+  of_file : (c : ClassFile) → IsRead classes entry.class c → LacksMethod c entry → LacksEntry classes entry
 
 -- what is wrong with a class that is known: its file is outside the format or too long, or it has unsuited supertypes
 pub data IsMalformed (t : Told) (name : List ℕ) : Fault → Type 0 where

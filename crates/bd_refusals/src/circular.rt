@@ -17,7 +17,7 @@ fn is_above(alloc: Global, classes: &Classes, class: &Name, name: &Name) -> Mem<
 }
 
 /// Whether a class is among its own supertypes: one of them has it directly above itself, or it does so itself.
-pub(crate) fn is_circular(alloc: Global, classes: &Classes, name: &Name) -> Mem<bool>
+pub fn is_circular(alloc: Global, classes: &Classes, name: &Name) -> Mem<bool>
     ensures { IfOk result (λ yes. IsTrue yes ↔ IsCircular classes.now name.now) }
 {
     let found = upward(alloc, classes, name, Up::Supertypes)?;

@@ -2,8 +2,12 @@
 #![tactic(auto)]
 
 mod circular;
+mod entry;
 mod known;
 mod refusal;
 mod suited;
 
+pub use circular::is_circular;
+pub use entry::lacks_entry;
 pub use refusal::Refusal;
+pub use suited::has_unsuited;

@@ -100,7 +100,7 @@ fn has_unsuited_super(classes: &Classes, class: &ClassFile) -> bool
 }
 
 /// Whether a class file has a supertype that it may not have.
-pub(crate) fn has_unsuited(classes: &Classes, class: &ClassFile) -> bool
+pub fn has_unsuited(classes: &Classes, class: &ClassFile) -> bool
     ensures { IsTrue result ↔ HasUnsuited classes.now class.now }
 {
     has_unsuited_super(classes, class) || has_class_above(classes, class.interfaces.as_slice())
