@@ -43,10 +43,11 @@ least_is_contained j g least closed is_least is_closed x member =
 
 -- the members of the least set are just those that follow
 pub least_derived : (j : Job) (g : Given) (list : List Member) → IsLeast j g list → AreDerived j g list
-least_derived j g list is_least x =
-    (λ member. is_least.derived x member,
-    λ d. let p = place_of d.0 x d.2 in
-        derived_in j g d.0 list d.1 is_least.closed (length d.0) p.0 x (slice_get_within d.0 p.0 x p.1) p.1)
+least_derived j g list is_least x = (
+  λ member. is_least.derived x member,
+  λ d. let p = place_of d.0 x d.2 in
+      derived_in j g d.0 list d.1 is_least.closed (length d.0) p.0 x (slice_get_within d.0 p.0 x p.1) p.1,
+)
 
 pub ok_derived : {E : Type 0} (j : Job) (g : Given) (answer : Result (List Member) E) → IfOk answer (IsLeast j g)
     → IfOk answer (AreDerived j g)

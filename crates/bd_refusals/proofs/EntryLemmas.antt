@@ -12,7 +12,8 @@ use Rattle.hi_tree.specs.Classes.{file_of, read_in}
 use Rattle.bd_core.specs.Given.{IsRead}
 use Rattle.bd_refusals.specs.Refusals.{HasNoObject, LacksMethod, no_code, no_receiver, LacksEntry, built_in, of_file}
 
-module _ (classes : List ClassFile) (entry : MethodId) (other : (b : Builtin) → entry.class ≡ class_name b → None ≡ Some b) where
+module _ (classes : List ClassFile) (entry : MethodId)
+    (other : (b : Builtin) → entry.class ≡ class_name b → None ≡ Some b) where
   pub by_file : (c : ClassFile) → IsRead classes entry.class c → LacksEntry classes entry → LacksMethod c entry
   by_file c is_read (built_in b e) = absurd (none-some b (other b e))
   by_file c is_read (of_file d is_other lacks) =

@@ -5,7 +5,8 @@ use Rattle.cf_class.specs.declared.class_file.ClassFile.{ClassFile}
 use Rattle.lib_rows.specs.declared.class.Builtin.{Builtin}
 use Rattle.lib_rows.specs.declared.class.Builtin.TheVariants as builtins
 use Rattle.lib_rows.specs.Classes.{class_name, is_interface}
-use Rattle.hi_tree.specs.Classes.{Known, built_in, read, builtin_of, class_in, known_class, first_known, file_of, read_in}
+use Rattle.hi_tree.specs.Classes.{Known, built_in, read, builtin_of, class_in, known_class, first_known, file_of}
+use Rattle.hi_tree.specs.Classes.{read_in}
 use Rattle.hi_tree.specs.Methods.{is_interface_class}
 use Rattle.bd_core.specs.Given.{IsRead}
 use Rattle.bd_refusals.specs.Suited.{HasKind, built_in as of_builtin, of_file}

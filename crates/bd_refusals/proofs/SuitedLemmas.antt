@@ -21,7 +21,8 @@ pub below_object : (b : Builtin) → superclass_of b ≡ Some builtins.Object �
     → IsThrowable b → ⊥
 below_object b e ne itself = ne refl
 below_object b e ne (under _ super f above) =
-    object_is_not (subst IsThrowable (same_Some super builtins.Object (subst (λ o. o ≡ Some builtins.Object) f e)) above)
+    let is_object = same_Some super builtins.Object (subst (λ o. o ≡ Some builtins.Object) f e) in
+    object_is_not (subst IsThrowable is_object above)
 
 -- an alternative more
 pub or_else : {rest : Type 0} (class b : Builtin) → IsThrowable b → (rest → IsThrowable class)

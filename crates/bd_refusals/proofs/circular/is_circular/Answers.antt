@@ -11,7 +11,8 @@ found-init c =
     let classes = c.args.classes.now in
     let items : List (List ℕ) = c.as_slice-class-items.result.now in
     let upward : AreUpward classes Supertypes c.args.name.now items =
-    subst (AreUpward classes Supertypes c.args.name.now) (sym c.as_slice-class-items.ensures.keys) c.in_ok-found.ensures in
+    subst (AreUpward classes Supertypes c.args.name.now) (sym c.as_slice-class-items.ensures.keys)
+    c.in_ok-found.ensures in
     any_start classes c.args.name.now items upward
 
 pub returns-then-branch : goal.returns-then-branch
@@ -19,7 +20,8 @@ returns-then-branch c =
     let classes = c.args.classes.now in
     let items : List (List ℕ) = c.as_slice-class-items.result.now in
     let upward : AreUpward classes Supertypes c.args.name.now items =
-    subst (AreUpward classes Supertypes c.args.name.now) (sym c.as_slice-class-items.ensures.keys) c.in_ok-found.ensures in
+    subst (AreUpward classes Supertypes c.args.name.now) (sym c.as_slice-class-items.ensures.keys)
+    c.in_ok-found.ensures in
     let there : Contains items c.class-item.result = search rules in
     let last : Contains (supertypes classes c.class-item.result) c.args.name.now = search rules in
     (λ yes. is_circular classes c.args.name.now c.class-item.result items upward there last, λ h. refl)

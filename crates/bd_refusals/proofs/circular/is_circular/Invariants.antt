@@ -5,4 +5,5 @@ use Rattle.bd_refusals.proofs.CircularLemmas.{AnyLast}
 use Rattle.bd_refusals.proofs.circular.is_circular.Given as goal
 
 abbrev pub invariant-found : goal.invariant-found
-invariant-found l = IsCircular l.fn.classes l.fn.name → AnyLast l.fn.classes l.fn.name (drop l.class-index l.class-items)
+invariant-found l =
+    IsCircular l.fn.classes l.fn.name → AnyLast l.fn.classes l.fn.name (drop l.class-index l.class-items)

@@ -22,7 +22,8 @@ returns c =
     let classes = c.args.classes.now in
     let items : List (List ℕ) = c.as_slice-above-items.result.now in
     let upward : AreUpward classes Superclasses c.args.class.now items =
-    subst (AreUpward classes Superclasses c.args.class.now) (sym c.as_slice-above-items.ensures.keys) c.in_ok-found.ensures in
+    subst (AreUpward classes Superclasses c.args.class.now) (sym c.as_slice-above-items.ensures.keys)
+    c.in_ok-found.ensures in
     adds_all (Each (DeclaresType classes) items) (HasField classes c.args.class.now) [] c.classes.types refl
     (has_each classes c.args.class.now items upward)
     (each_end (DeclaresType classes) [] items c.classes.above-index c.classes.types c.classes-test.false
