@@ -1,12 +1,14 @@
 -- The least set is contained in each closed one.
 use Rattle.std.proofs.Common.{◌≡◌, ℕ, zero, suc, ◌<◌, List, length, Contains, Some, slice_get, take, arith}
+use Rattle.std.specs.Prelude.{Result, Ok, Err, IfOk}
 use Rattle.std.proofs.lemmas.Option.{slice_get_within}
 use Rattle.jv_list.proofs.ElementLemmas.{place_of, from_take}
 use Rattle.bd_core.specs.declared.job.Job.{Job}
 use Rattle.bd_core.specs.declared.member.Member.{Member}
 use Rattle.bd_core.specs.Given.{Given}
 use Rattle.bd_core.specs.Rules.{Follows, from_entry, from_fact, from_member, selected}
-use Rattle.bd_core.specs.Least.{IsClosed, IsDerivation}
+use Rattle.bd_core.specs.Least.{IsClosed, IsDerivation, IsLeast}
+use Rattle.bd_core.specs.Runs.{AreDerived}
 use Rattle.bd_core.specs.Laws.{LeastIsContained}
 
 module _ (j : Job) (g : Given) where
@@ -38,3 +40,16 @@ least_is_contained j g least closed is_least is_closed x member =
     let d = is_least.derived x member in
     let p = place_of d.0 x d.2 in
     derived_in j g d.0 closed d.1 is_closed (length d.0) p.0 x (slice_get_within d.0 p.0 x p.1) p.1
+
+-- the members of the least set are just those that follow
+pub least_derived : (j : Job) (g : Given) (list : List Member) → IsLeast j g list → AreDerived j g list
+least_derived j g list is_least x = (
+  λ member. is_least.derived x member,
+  λ d. let p = place_of d.0 x d.2 in
+      derived_in j g d.0 list d.1 is_least.closed (length d.0) p.0 x (slice_get_within d.0 p.0 x p.1) p.1,
+)
+
+pub ok_derived : {E : Type 0} (j : Job) (g : Given) (answer : Result (List Member) E) → IfOk answer (IsLeast j g)
+    → IfOk answer (AreDerived j g)
+ok_derived j g (Ok list) is_least = least_derived j g list is_least
+ok_derived j g (Err e) is_least = is_least

@@ -1,5 +1,5 @@
 -- Runs of the loading core: workers take what is asked for by what was given before, and give its facts or give it back.
-use Rattle.std.specs.Prelude.{◌≡◌, ℕ, true, false, List, [], ◌∷◌, ◌++◌, Option, Some, None, is_some, Contains, fold}
+use Rattle.std.specs.Prelude.{◌≡◌, ◌↔◌, ℕ, true, false, List, [], ◌∷◌, ◌++◌, Option, Some, None, is_some, Contains, fold}
 use Rattle.std.specs.Map.{update}
 use Rattle.jv_base.specs.declared.method.MethodId.{MethodId}
 use Rattle.cf_class.specs.declared.class_file.ClassFile.{ClassFile}
@@ -24,6 +24,10 @@ use Rattle.bd_core.specs.Told.{Told, IsNothing, is_given, Fits, IsTold}
 -- a member follows from what was given, by some derivation
 abbrev pub IsDerived : Job → Given → Member → Type 0
 IsDerived j g x = (list : List Member) × IsDerivation j g list × Contains list x
+
+-- exactly those members follow
+abbrev pub AreDerived : Job → Given → List Member → Type 0
+AreDerived j g members = (x : Member) → Contains members x ↔ IsDerived j g x
 
 -- the class of a method was read and declares it, with code
 pub record HasCode (classes : List ClassFile) (m : MethodId) : Type 0 where

@@ -59,6 +59,13 @@ impl Loaded {
         self.facts.get(method)
     }
 
+    /// Why there is no class file under a name, where that was told.
+    pub(crate) fn unread(&self, name: &Name) -> Option<&Unread>
+        ensures { option_copied result ≡ (told self.now).unread name.now }
+    {
+        self.unread.get(name)
+    }
+
     /// Whether an item was told of.
     pub(crate) fn has(&self, item: &Item) -> bool
         ensures { result ≡ is_given (told self.now) item.now }

@@ -4,18 +4,19 @@ ghost use Rattle.hi_tree.specs.Classes.{class_in};
 ghost use Rattle.bd_core.specs.declared.item.Event.TheVariants as events;
 ghost use Rattle.bd_core.specs.Told.{Fits, IsTold};
 ghost use Rattle.bd_core.specs.Least.{IsLeast};
-ghost use Rattle.bd_core.specs.Runs.{holder, IsExhausted};
+ghost use Rattle.bd_core.specs.Runs.{holder, AreDerived, IsExhausted};
 ghost use Rattle.bd_core.specs.Loading.{job_of, events_of, told_of, IsKept, IsAsBefore, Leaves, Answers};
 ghost use Rattle.bd_core.specs.Calls.Cores.{IsKeptBut};
 
-use crate::item::{Event, Facts, Item, Took};
+use crate::item::{Event, Facts, Item, Took, Unread};
 use crate::job::Job;
 use crate::loaded::Loaded;
 use crate::log::Log;
 use crate::member::Member;
 use crate::queue::{asked, members_of, pop_free};
+use bd_scan::Fact;
 use cf_class::ClassFile;
-use hi_tree::growth_laws;
+use hi_tree::{Classes, growth_laws};
 use jv_base::{List, Mem, MethodId, Name};
 use std::alloc::Global;
 
@@ -62,9 +63,38 @@ impl Core {
         self.loaded.classes().find(name)
     }
 
-    /// The least set that the rules allow over what was told so far.
+    /// What is loaded for.
+    pub fn job(&self) -> &Job
+        ensures { result.now ≡ job_of self.now }
+    {
+        &self.job
+    }
+
+    /// The class files that were given, in that order.
+    pub fn classes(&self) -> &Classes
+        ensures { result.now ≡ (told_of self.now).given.classes }
+    {
+        self.loaded.classes()
+    }
+
+    /// Why there is no class file under a name, where that was given.
+    pub fn unread(&self, name: &Name) -> Option<&Unread>
+        ensures { option_copied result ≡ (told_of self.now).unread name.now }
+    {
+        self.loaded.unread(name)
+    }
+
+    /// The facts of a method that were given.
+    pub fn facts(&self, method: &MethodId) -> Option<&List<Fact>>
+        ensures { option_copied result ≡ (told_of self.now).given.facts method.now }
+    {
+        self.loaded.facts(method)
+    }
+
+    /// The least set that the rules allow over what was told so far: just what follows by them.
     pub fn members(&self) -> Mem<List<Member>>
-        ensures { IfOk result (IsLeast (job_of self.now) (told_of self.now).given) }
+        ensures least { IfOk result (IsLeast (job_of self.now) (told_of self.now).given) }
+        ensures derived { IfOk result (AreDerived (job_of self.now) (told_of self.now).given) }
     {
         members_of(self.alloc, &self.job, &self.loaded)
     }

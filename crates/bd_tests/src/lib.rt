@@ -7,6 +7,8 @@ mod cases;
 #[cfg(test)]
 mod facts;
 #[cfg(test)]
+mod refusals;
+#[cfg(test)]
 mod tables;
 #[cfg(test)]
 mod worlds;

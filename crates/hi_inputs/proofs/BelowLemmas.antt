@@ -4,12 +4,14 @@ use Rattle.std.specs.Prelude.{◌↔◌}
 use Rattle.cf_class.specs.declared.class_file.ClassFile.{ClassFile}
 use Rattle.jv_base.specs.Descriptor.{ElementType, base, object, FieldType}
 use Rattle.hi_tree.specs.Inputs.{IsMade, HasField}
-use Rattle.hi_inputs.specs.Calls.Below.{AreUpward, DeclaresType, IsBelow, IsBelowElement}
+use Rattle.hi_tree.specs.declared.known.Up.TheVariants.{Superclasses}
+use Rattle.hi_inputs.specs.Upward.{AreUpward}
+use Rattle.hi_inputs.specs.Calls.Below.{DeclaresType, IsBelow, IsBelowElement}
 use Rattle.hi_inputs.proofs.AddLemmas.{Each}
 
 module _ (classes : List ClassFile) where
   -- the types of fields of objects are those that a class upward declares
-  pub has_each : (name : List ℕ) (names : List (List ℕ)) → AreUpward classes name names
+  pub has_each : (name : List ℕ) (names : List (List ℕ)) → AreUpward classes Superclasses name names
       → (t : FieldType) → Each (DeclaresType classes) names t ↔ HasField classes name t
   has_each name names upward t = (
     λ e.

@@ -7,7 +7,7 @@ ghost use Rattle.hi_inputs.specs.Calls.Below.{IsInstanceType, IsOfFields, Declar
 use crate::above::upward;
 use crate::flat::{FlatType, flat_type};
 use cf_class::Member;
-use hi_tree::{Classes, has_flag};
+use hi_tree::{Classes, Up, has_flag};
 use jv_base::{List, Mem, Name, TextFault, one_form, read_field_type};
 use std::alloc::{AllocError, Global};
 
@@ -50,7 +50,7 @@ fn put_declared(alloc: Global, classes: &Classes, class: &Name, out: &mut List<F
 pub(crate) fn field_types(alloc: Global, classes: &Classes, class: &Name) -> Mem<List<FlatType>>
     ensures { IfOk result (AreTypes (HasField classes.now class.now)) }
 {
-    let found = upward(alloc, classes, class)?;
+    let found = upward(alloc, classes, class, Up::Superclasses)?;
     let mut types = List::new(alloc);
     'classes: for above in found.as_slice() {
         put_declared(alloc, classes, above, &mut types)?;

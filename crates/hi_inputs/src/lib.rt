@@ -10,6 +10,7 @@ mod flat;
 mod made;
 mod types;
 
+pub use above::upward;
 pub use classes::input_classes;
 pub use made::is_made;
 pub use types::input_types;

@@ -1,21 +1,17 @@
 -- For private functions and proofs alone: the types one deeper than a type.
-use Rattle.std.specs.Prelude.{◌≡◌, ◌↔◌, ℕ, suc, false, List, Some, Contains, ◌⊎◌}
+use Rattle.std.specs.Prelude.{◌≡◌, ℕ, suc, false, List, Some, Contains, ◌⊎◌}
 use Rattle.cf_class.specs.declared.class_file.ClassFile.{ClassFile}
 use Rattle.cf_class.specs.declared.member.Member.{Member}
 use Rattle.jv_base.specs.Descriptor.{ElementType, object, FieldType, IsFieldType, field_text}
 use Rattle.hi_tree.specs.Classes.{class_in}
 use Rattle.hi_tree.specs.Members.{has_flag}
-use Rattle.hi_tree.specs.Inputs.{IsMade, HasField, superclasses}
-use Rattle.hi_tree.specs.Walks.{IsAbove}
+use Rattle.hi_tree.specs.declared.known.Up.{Up}
+use Rattle.hi_tree.specs.Inputs.{IsMade, HasField}
+use Rattle.hi_inputs.specs.Upward.{names_up}
 
--- a class is the direct superclass of another
-abbrev pub IsSuperOf : List ClassFile → List ℕ → List ℕ → Type 0
-IsSuperOf classes class above = Contains (superclasses classes class) above
-
--- a class and those above it
-abbrev pub AreUpward : List ClassFile → List ℕ → List (List ℕ) → Type 0
-AreUpward classes name names =
-    (class : List ℕ) → Contains names class ↔ ((name ≡ class) ⊎ IsAbove (superclasses classes) name class)
+-- a class is directly above another
+abbrev pub IsSuperOf : List ClassFile → Up → List ℕ → List ℕ → Type 0
+IsSuperOf classes up class above = Contains (names_up classes up class) above
 
 -- the type of a field that is not static
 pub record IsInstanceType (field : Member) (t : FieldType) : Type 0 where

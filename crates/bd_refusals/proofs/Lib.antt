@@ -1,0 +1,4 @@
+mod KnownLemmas
+mod SuitedLemmas
+mod CircularLemmas
+mod EntryLemmas

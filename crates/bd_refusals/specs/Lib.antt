@@ -1,0 +1,4 @@
+pub mod Suited
+pub mod References
+pub mod Refusals
+pub mod Calls
