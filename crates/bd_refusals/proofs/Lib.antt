@@ -2,3 +2,4 @@ mod KnownLemmas
 mod SuitedLemmas
 mod CircularLemmas
 mod EntryLemmas
+mod TableLemmas

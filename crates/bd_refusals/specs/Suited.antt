@@ -45,7 +45,15 @@ pub record IsSuited (classes : List ClassFile) (c : ClassFile) : Type 0 where
   pub not_circular : IsCircular classes c.this_class.name → ⊥
   pub no_unsuited : HasUnsuited classes c → ⊥
 
+-- the class file of a name, where neither holds of it
+abbrev pub IsSuitedIn : List ClassFile → List ℕ → ClassFile → Type 0
+IsSuitedIn classes name c = (class_in classes name ≡ Some c) × IsSuited classes c
+
 -- the table without the class files of which one holds
 abbrev pub AreSuited : List ClassFile → List ClassFile → Type 0
-AreSuited classes suited = (name : List ℕ) (c : ClassFile)
-    → (class_in suited name ≡ Some c) ↔ (class_in classes name ≡ Some c) × IsSuited classes c
+AreSuited classes suited = (name : List ℕ) (c : ClassFile) → (class_in suited name ≡ Some c) ↔ IsSuitedIn classes name c
+
+-- the same of some names alone
+abbrev pub AreSuitedOf : List ClassFile → List (List ℕ) → List ClassFile → Type 0
+AreSuitedOf classes names suited = (name : List ℕ) (c : ClassFile) → (class_in suited name ≡ Some c)
+    ↔ (Contains names name × IsSuitedIn classes name c)

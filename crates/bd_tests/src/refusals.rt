@@ -1,6 +1,6 @@
 // What is refused of classes and of entries. Each class has the methods `m` with code, `s` static with code, and `n` native.
 use crate::tables::rows;
-use bd_refusals::{has_unsuited, is_circular, lacks_entry};
+use bd_refusals::{has_unsuited, is_circular, lacks_entry, suited_classes};
 use cf_class::{Attribute, Body, ClassFile, Code, Member, Named};
 use cf_pool::Pool;
 use hi_tree::Classes;
@@ -186,6 +186,25 @@ fn unsuited_supertypes_and_circles_are_found(rt: HostRuntime) {
         let circular = word(is_circular(alloc, &classes, &name).expect(&rt, "memory"));
         let told = format!(in alloc; "{unsuited} {circular}").expect(&rt, "memory");
         assert_eq!(&rt; told.as_str(), wanted, "{row}");
+    }
+}
+
+#[test]
+fn the_others_are_copied(rt: HostRuntime) {
+    let alloc = rt.alloc();
+    let classes = world(&rt);
+    let mut names = Vec::new(alloc);
+    let mut other = Classes::new(alloc);
+    for row in rows(&rt, CLASSES) {
+        let (name, _wanted) = put_row(&rt, &mut other, row);
+        names.push(name_of(&rt, name)).expect(&rt, "memory");
+    }
+    let suited = suited_classes(alloc, &classes, names.as_slice()).expect(&rt, "memory");
+    for row in rows(&rt, CLASSES) {
+        let (head, rest) = cell(&rt, row);
+        let (_kind, name) = head.split_once(' ').expect(&rt, "a kind and a name");
+        let is_there = suited.find(&name_of(&rt, name)).is_some();
+        assert_eq!(&rt; is_there, rest.ends_with("no no"), "{row}");
     }
 }
 
